@@ -1,0 +1,3 @@
+mod Examples
+pub mod Feeds
+pub mod Steps

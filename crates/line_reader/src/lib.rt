@@ -1,0 +1,12 @@
+//! The lines of a stream, one after another.
+//!
+//! `Lines` keeps one line in hand and the bytes of one read, and gives a line a call. What a caller
+//! has to know of bytes is in the one clause `gets` of `Lines::next`: start at `Gets` in
+//! specs/Reading.antt. What a line says is not here, but in the crates that parse it.
+#![tactic(auto)]
+
+mod lines;
+#[cfg(test)]
+mod tests;
+
+pub use lines::{Lines, Next};

@@ -1,0 +1,4 @@
+pub mod Appended
+mod Examples
+mod Kept
+mod Places
