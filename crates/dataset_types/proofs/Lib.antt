@@ -1,0 +1,4 @@
+pub mod EnvLemmas
+pub mod TableLemmas
+pub mod RuleLemmas
+mod Examples

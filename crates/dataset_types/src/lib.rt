@@ -1,0 +1,25 @@
+//! Datasets: tables with their marks, the slots that names hold, environments, and picks at caveated places.
+//!
+//! Start at `Table`, whose type keeps the rules and limits of a dataset, and at `Env`, which gives each
+//! name its slot. What a cell makes of them is not here, but in `cell_model`.
+#![tactic(auto)]
+
+mod column;
+mod env;
+mod laws;
+mod picks;
+mod row;
+mod rules;
+mod slot;
+mod table;
+#[cfg(test)]
+mod tests;
+
+pub use column::{Column, Columns};
+pub use env::Env;
+pub use laws::{law_of_numbers, law_of_order, law_of_reading};
+pub use picks::{Choice, Pick, Picks, Site};
+pub use row::{Marked, MarkedValues, Row, Rows};
+pub use rules::{all_sure, names_distinct, rows_fit};
+pub use slot::{Named, Slot, Slots, slot_same};
+pub use table::{Table, TableFault, table_same};

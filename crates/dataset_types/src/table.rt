@@ -1,0 +1,188 @@
+//! Tables, whose type keeps the rules and the limits of a dataset.
+ghost use Rattle.std.specs.Prelude.{◌≡◌, ◌↔◌, ◌-◌, ◌^◌, min, true, false, Err, IsTrue, IsOk, IfOk};
+ghost use Rattle.dataset_types.specs.Tables.{Distinct, column_names, row_ids, rows_fit, all_sure};
+ghost use Rattle.dataset_types.specs.Tables.{text_size, row_size, text_bytes, ids_short};
+ghost use Rattle.dataset_types.specs.Tables.{IsTable, table_of, within_limits};
+
+use crate::column::Columns;
+use crate::row::{Row, Rows};
+use std::alloc::Global;
+use std::marker::Model;
+use value_types::{NoMemory, Value, id_parts, id_weight};
+
+/// A dataset: columns, rows, and whether rows may be missing or their order is uncertain.
+#[derive(Drop)]
+pub struct Table {
+    columns: Columns,
+    rows: Rows,
+    is_open: bool,
+    is_loose: bool,
+}
+
+impl Model for Table {
+    ghost use Rattle.std.specs.Coded.{codes};
+    ghost use Rattle.value_types.specs.contracts.row_id.RowId as row_id;
+    ghost use Rattle.dataset_types.specs.Tables.{TableData, IsTable, table_of};
+
+    ghost Value = { TableData };
+
+    ghost coded = { Prim.hlevel (codes, row_id.the_row.coded) };
+
+    ghost view = { λ t. table_of t.columns t.rows t.is_open t.is_loose };
+
+    ghost invariant = { λ t. IsTable (table_of t.columns t.rows t.is_open t.is_loose) };
+}
+
+/// Why a table was not made.
+#[derive(Clone, Copy, Debug, PartialEq, Eq)]
+pub enum TableFault {
+    /// A limit of a dataset is passed.
+    TooLarge,
+    NoMemory,
+}
+
+impl Table {
+    /// The table of these parts, which are given up where a limit is passed.
+    ///
+    /// - Error: `TooLarge` exactly where a limit is passed; `NoMemory` never.
+    /// - Source: docs/FORMATS.md, "Limits".
+    pub fn new(
+        _alloc: Global,
+        columns: Columns,
+        rows: Rows,
+        is_open: bool,
+        is_loose: bool,
+    ) -> Result<Table, TableFault>
+        requires names { Distinct (column_names columns) }
+        requires ids { Distinct (row_ids rows) }
+        requires fitting { IsTrue (rows_fit columns rows) }
+        requires sure { is_open ≡ false → IsTrue (all_sure rows) }
+        ensures value { IfOk result (λ t. t ≡ table_of columns rows is_open is_loose) }
+        ensures fits { IsOk result ↔ IsTrue (within_limits (table_of columns rows is_open is_loose)) }
+        ensures too_large { (result ≡ Err TableFault.TooLarge)
+            ↔ (within_limits (table_of columns rows is_open is_loose) ≡ false) }
+    {
+        let within = columns.len() <= 32
+            && rows.len() <= 65_536
+            && rows.len() * columns.len() <= 65_536
+            && text_bytes(rows.as_slice()) <= 1_048_576
+            && ids_short(rows.as_slice());
+        if !within {
+            return Err(TableFault::TooLarge);
+        }
+        Ok(Table {
+            columns,
+            rows,
+            is_open,
+            is_loose,
+        })
+    }
+
+    /// The rules and limits that every table keeps.
+    pub fn law_of_rules(&self)
+        ensures { IsTable self.now }
+    {
+        let _columns = &self.columns;
+    }
+
+    pub fn columns(&self) -> &Columns
+        ensures { result.now ≡ self.now.columns }
+    {
+        &self.columns
+    }
+
+    pub fn rows(&self) -> &Rows
+        ensures { result.now ≡ self.now.rows }
+    {
+        &self.rows
+    }
+
+    pub fn is_open(&self) -> bool
+        ensures { result ≡ self.now.is_open }
+    {
+        self.is_open
+    }
+
+    pub fn is_loose(&self) -> bool
+        ensures { result ≡ self.now.is_loose }
+    {
+        self.is_loose
+    }
+
+    pub fn copy(&self, alloc: Global) -> Result<Table, NoMemory>
+        ensures { IfOk result (λ t. t ≡ self.now) }
+    {
+        Ok(Table {
+            columns: self.columns.copy(alloc)?,
+            rows: self.rows.copy(alloc)?,
+            is_open: self.is_open,
+            is_loose: self.is_loose,
+        })
+    }
+}
+
+fn text_size(value: &Value) -> u64
+    ensures { result ≡ text_size value.now }
+{
+    match value {
+        Value::Text(text) => text.len() as u64,
+        _ => 0,
+    }
+}
+
+// The bytes of text in a row, or the last value of u64 where there are more.
+fn row_size(row: &Row) -> u64
+    ensures { result ≡ min (row_size row.now) (2 ^ 64 - 1) }
+{
+    let mut size = id_weight(&row.id);
+    for marked in row.values.as_slice() {
+        size = size.saturating_add(text_size(&marked.value));
+    }
+    size
+}
+
+fn text_bytes(rows: &[Row]) -> u64
+    ensures { result ≡ min (text_bytes rows.now) (2 ^ 64 - 1) }
+{
+    let mut size: u64 = 0;
+    for row in rows {
+        size = size.saturating_add(row_size(row));
+    }
+    size
+}
+
+fn ids_short(rows: &[Row]) -> bool
+    ensures { result ≡ ids_short rows.now }
+{
+    rows.iter().all(|row| id_parts(&row.id) <= 8)
+}
+
+impl PartialEq for Table {
+    ghost use Rattle.std.specs.Cmp.{partial_equiv_from_equiv};
+    ghost use Rattle.dataset_types.specs.Same.{same_table, table_equiv};
+
+    ghost eq = { same_table };
+
+    ghost laws = { partial_equiv_from_equiv table_equiv };
+
+    fn eq(&self, other: &Table) -> bool {
+        self.columns == other.columns
+            && self.rows == other.rows
+            && self.is_open == other.is_open
+            && self.is_loose == other.is_loose
+    }
+}
+
+impl Eq for Table {
+    ghost use Rattle.dataset_types.specs.Same.{table_equiv};
+
+    ghost laws = { table_equiv };
+}
+
+/// Whether two tables are one by value, marks and flags included. It takes no memory.
+#[tactic(auto, using(crate::specs::Same::table_decides))]
+pub fn table_same(a: &Table, b: &Table) -> bool
+    ensures { IsTrue result ↔ (a.now ≡ b.now) }
+{
+    a == b
+}
