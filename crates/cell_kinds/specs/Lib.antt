@@ -1,0 +1,5 @@
+-- what each kind of cell means
+pub mod Kinds
+pub mod Make
+-- a cell in error gives nothing else
+pub mod Bare

@@ -1,0 +1,12 @@
+//! What each kind of cell gives, reads and may write, and how it is run.
+//!
+//! Start at `Kinds`, the work that runs every kind of cell, and read `specs/Kinds.antt` for what a
+//! cell means. What a run of many cells is, is not here, but in `cell_model`.
+#![tactic(auto)]
+
+mod kinds;
+mod make;
+#[cfg(test)]
+mod tests;
+
+pub use kinds::Kinds;

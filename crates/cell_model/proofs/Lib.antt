@@ -1,0 +1,5 @@
+mod Asked
+mod Distinctness
+pub mod Examples
+pub mod RunLemmas
+mod RunLaws

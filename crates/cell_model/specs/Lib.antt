@@ -1,0 +1,10 @@
+-- the serial run, what reads answer, and when a record is valid
+pub mod Reading
+pub mod Records
+pub mod Runs
+-- how a run goes on, what it answers, and its laws
+pub mod Answers
+pub mod Laws
+pub mod Trails
+-- what the worked examples and the tests run
+pub mod Sample

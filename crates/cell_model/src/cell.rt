@@ -1,0 +1,50 @@
+//! Cells: what a version is made of.
+ghost use Rattle.std.specs.Prelude.{◌≡◌, IfOk};
+
+use dataset_types::{Picks, Table};
+use std::alloc::Global;
+use value_types::{ArcOf, ListOf, Name, NoMemory};
+
+/// A cell of a notebook. One cell may stand in many versions.
+#[derive(Drop)]
+pub struct Cell {
+    /// The number of the version that brought it in.
+    pub id: u32,
+    pub kind: CellKind,
+    pub picks: ArcOf<Picks>,
+}
+
+/// What a cell does.
+#[derive(Drop)]
+pub enum CellKind {
+    /// Holds a literal dataset and writes it under its name.
+    Make { name: Name, table: ArcOf<Table> },
+}
+
+/// The cells of a version, in order. They are shared.
+pub type Cells = ListOf<ArcOf<Cell>>;
+
+impl CellKind {
+    pub fn copy(&self, alloc: Global) -> Result<CellKind, NoMemory>
+        ensures { IfOk result (λ k. k ≡ self.now) }
+    {
+        match self {
+            CellKind::Make { name, table } => Ok(CellKind::Make {
+                name: name.copy(),
+                table: table.copy(alloc)?,
+            }),
+        }
+    }
+}
+
+impl Cell {
+    pub fn copy(&self, alloc: Global) -> Result<Cell, NoMemory>
+        ensures { IfOk result (λ c. c ≡ self.now) }
+    {
+        Ok(Cell {
+            id: self.id,
+            kind: self.kind.copy(alloc)?,
+            picks: self.picks.copy(alloc)?,
+        })
+    }
+}
