@@ -1,0 +1,21 @@
+use Rattle.std.proofs.Common.{◌<◌, sym, subst}
+use Rattle.serde_json.specs.View.{items_view}
+use Rattle.edit_wire.proofs.Made.{rows_read, distinct_ids, too_many, counted}
+use Rattle.edit_wire.proofs.make.table_from.Goals as goal
+
+pub returns-then-list-gt65536 : goal.returns-then-list-gt65536
+returns-then-list-gt65536 c =
+    too_many (items_view c.args.heads.now) (items_view c.args.list.now)
+    (subst (λ n. 65536 < n) (sym (counted c.args.list.now)) c.if-list-gt65536.true)
+
+pub limited-requires-clause-ids : goal.limited-requires-clause-ids
+limited-requires-clause-ids c =
+    distinct_ids _ _ (rows_read c.in-Some.columns _ _ _ _ c.as_slice.ensures c.in_ok-rows.ensures c.in-Some-2.is)
+
+pub limited-requires-clause-fitting : goal.limited-requires-clause-fitting
+limited-requires-clause-fitting c =
+    (rows_read c.in-Some.columns _ _ _ _ c.as_slice.ensures c.in_ok-rows.ensures c.in-Some-2.is).fitting
+
+pub limited-requires-clause-sure : goal.limited-requires-clause-sure
+limited-requires-clause-sure c =
+    (rows_read c.in-Some.columns _ _ _ _ c.as_slice.ensures c.in_ok-rows.ensures c.in-Some-2.is).sure

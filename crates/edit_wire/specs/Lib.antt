@@ -1,0 +1,4 @@
+pub mod Answers
+pub mod Json
+pub mod Cells
+pub mod Wire

@@ -1,0 +1,75 @@
+-- The edit of a line (docs/FORMATS.md, "Edit lines").
+use Rattle.std.specs.Prelude.{ℕ, ◌^◌, List, codes, nat_lt, if◌then◌else◌, Option, Some, None, option_map, option_and_then, ok_or, Result, Err}
+use Rattle.std.specs.Str.{bytes_eq, is_utf8}
+use Rattle.serde_json.specs.Data.{Data}
+use Rattle.serde_json.specs.Find.{as_number, as_str, as_u64}
+use Rattle.serde_json.specs.Read.{read}
+use Rattle.cell_model.specs.declared.fault.EditRefusal.{EditRefusal}
+use Rattle.cell_model.specs.declared.fault.EditRefusal.TheVariants as refusal
+use Rattle.edit_wire.specs.declared.edit.Edit.{Edit}
+use Rattle.edit_wire.specs.declared.edit.EditCell.{EditCell}
+use Rattle.edit_wire.specs.declared.edit.EditKind.{EditKind}
+use Rattle.edit_wire.specs.declared.edit.EditKind.TheVariants as edit
+use Rattle.edit_wire.specs.Json.{with_members, field}
+use Rattle.edit_wire.specs.Cells.{name_in, cell_of}
+
+-- a number of u32
+abbrev pub in_u32 : ℕ → Option ℕ
+in_u32 n = if nat_lt n (2 ^ 32) then Some n else None
+
+-- a whole number from 0 to 4,294,967,295
+abbrev pub place_in : Data → Option ℕ
+place_in d = option_and_then in_u32 (option_and_then as_u64 (as_number d))
+
+-- the fields that an edit has, beside `edit` and `branch`, where it has no others
+
+abbrev pub append_of : Data → Option EditKind
+append_of d = with_members 3 d (option_map edit.Append (field cell_of (codes "cell") d))
+
+abbrev pub place_and_cell : Data → Option (ℕ × EditCell)
+place_and_cell d =
+    with_members 4 d
+    (option_and_then (λ at. option_map (λ cell. (at, cell)) (field cell_of (codes "cell") d)) (field place_in (codes "at") d))
+
+abbrev pub insert_of : Data → Option EditKind
+insert_of d = option_map (λ p. edit.Insert p.0 p.1) (place_and_cell d)
+
+abbrev pub update_of : Data → Option EditKind
+update_of d = option_map (λ p. edit.Update p.0 p.1) (place_and_cell d)
+
+abbrev pub delete_of : Data → Option EditKind
+delete_of d = with_members 3 d (option_map edit.Delete (field place_in (codes "at") d))
+
+abbrev pub branch_of : Data → Option EditKind
+branch_of d = with_members 3 d (option_map edit.Branch (field place_in (codes "from") d))
+
+-- what the word of the field `edit` asks for
+abbrev pub kind_named : List ℕ → Data → Option EditKind
+kind_named word d =
+    if bytes_eq word (codes "append") then append_of d
+    else (if bytes_eq word (codes "insert") then insert_of d
+    else (if bytes_eq word (codes "update") then update_of d
+    else (if bytes_eq word (codes "delete") then delete_of d
+    else (if bytes_eq word (codes "branch") then branch_of d
+    else None))))
+
+abbrev pub kind_of : Data → Option EditKind
+kind_of d = option_and_then (λ word. kind_named word d) (field as_str (codes "edit") d)
+
+-- the edit that a JSON value is
+unfoldable pub edit_in : Data → Option Edit
+edit_in d =
+    option_and_then (λ branch. option_map (λ kind. record { branch = branch; kind = kind }) (kind_of d))
+    (field name_in (codes "branch") d)
+
+-- the value that a line is, where it is JSON in UTF-8
+unfoldable pub json_of : List ℕ → Option Data
+json_of line = if is_utf8 line then read line else None
+
+abbrev pub edit_or : Option Data → Result Edit EditRefusal
+edit_or None = Err refusal.BadJson
+edit_or (Some d) = ok_or (edit_in d) refusal.BadEdit
+
+-- the edit that a line is, or why it is none
+abbrev pub edit_of : List ℕ → Result Edit EditRefusal
+edit_of line = edit_or (json_of line)

@@ -1,0 +1,174 @@
+//! The edit of a line: its JSON, its branch, and what its word asks for.
+ghost use Rattle.std.specs.Prelude.{◌≡◌, IfOk, option_map};
+ghost use Rattle.serde_json.specs.View.{view};
+ghost use Rattle.edit_wire.specs.Answers.{Gives};
+ghost use Rattle.edit_wire.specs.Cells as cells;
+ghost use Rattle.edit_wire.specs.Json as fields;
+ghost use Rattle.edit_wire.specs.Wire as spec;
+
+use crate::edit::{Edit, EditCell, EditFault, EditKind};
+use crate::json::{FromJson, field, has_members, text_field};
+use crate::make::make_of;
+use cell_model::EditRefusal;
+use serde_json::Value as Json;
+use std::alloc::Global;
+use value_types::NoMemory;
+
+impl FromJson for EditCell {
+    ghost meaning = { cells.cell_of };
+
+    fn from_json(alloc: Global, json: &Json) -> Result<Option<EditCell>, NoMemory> {
+        Ok(make_of(alloc, json)?.map(EditCell::Other))
+    }
+}
+
+fn place_of(json: &Json) -> Option<u32>
+    ensures { result ≡ spec.place_in (view json.now) }
+{
+    match json.as_u64() {
+        Some(n) => u32::try_from(n).ok(),
+        None => None,
+    }
+}
+
+/// The place that a field is.
+fn place_field(json: &Json, name: &str) -> Option<u32>
+    ensures { result ≡ fields.field spec.place_in name.now (view json.now) }
+{
+    match json.get(name) {
+        Some(value) => place_of(value),
+        None => None,
+    }
+}
+
+/// The place and the cell of an edit that has both.
+fn place_and_cell(alloc: Global, json: &Json) -> Result<Option<(u32, EditCell)>, NoMemory>
+    ensures { IfOk result (λ found. found ≡ spec.place_and_cell (view json.now)) }
+{
+    if !has_members(json, 4) {
+        return Ok(None);
+    }
+    let Some(at) = place_field(json, "at") else {
+        return Ok(None);
+    };
+    match field(alloc, json, "cell")? {
+        Some(cell) => Ok(Some((at, cell))),
+        None => Ok(None),
+    }
+}
+
+fn append_of(alloc: Global, json: &Json) -> Result<Option<EditKind>, NoMemory>
+    ensures { IfOk result (λ found. found ≡ spec.append_of (view json.now)) }
+{
+    if !has_members(json, 3) {
+        return Ok(None);
+    }
+    match field(alloc, json, "cell")? {
+        Some(cell) => Ok(Some(EditKind::Append { cell })),
+        None => Ok(None),
+    }
+}
+
+fn insert_of(alloc: Global, json: &Json) -> Result<Option<EditKind>, NoMemory>
+    ensures { IfOk result (λ found. found ≡ spec.insert_of (view json.now)) }
+{
+    match place_and_cell(alloc, json)? {
+        Some((at, cell)) => Ok(Some(EditKind::Insert { at, cell })),
+        None => Ok(None),
+    }
+}
+
+fn update_of(alloc: Global, json: &Json) -> Result<Option<EditKind>, NoMemory>
+    ensures { IfOk result (λ found. found ≡ spec.update_of (view json.now)) }
+{
+    match place_and_cell(alloc, json)? {
+        Some((at, cell)) => Ok(Some(EditKind::Update { at, cell })),
+        None => Ok(None),
+    }
+}
+
+fn delete_of(json: &Json) -> Option<EditKind>
+    ensures { result ≡ spec.delete_of (view json.now) }
+{
+    if !has_members(json, 3) {
+        return None;
+    }
+    match place_field(json, "at") {
+        Some(at) => Some(EditKind::Delete { at }),
+        None => None,
+    }
+}
+
+fn branch_of(json: &Json) -> Option<EditKind>
+    ensures { result ≡ spec.branch_of (view json.now) }
+{
+    if !has_members(json, 3) {
+        return None;
+    }
+    match place_field(json, "from") {
+        Some(from) => Some(EditKind::Branch { from }),
+        None => None,
+    }
+}
+
+fn kind_named(alloc: Global, word: &str, json: &Json) -> Result<Option<EditKind>, NoMemory>
+    ensures { IfOk result (λ found. found ≡ spec.kind_named word.now (view json.now)) }
+{
+    match word {
+        "append" => append_of(alloc, json),
+        "insert" => insert_of(alloc, json),
+        "update" => update_of(alloc, json),
+        "delete" => Ok(delete_of(json)),
+        "branch" => Ok(branch_of(json)),
+        _ => Ok(None),
+    }
+}
+
+#[tactic(auto, unfolding(crate::specs::Wire::edit_in))]
+fn edit_in(alloc: Global, json: &Json) -> Result<Option<Edit>, NoMemory>
+    ensures { IfOk result (λ found. found ≡ spec.edit_in (view json.now)) }
+{
+    let Some(branch) = field(alloc, json, "branch")? else {
+        return Ok(None);
+    };
+    let Some(word) = text_field(json, "edit") else {
+        return Ok(None);
+    };
+    match kind_named(alloc, word, json)? {
+        Some(kind) => Ok(Some(Edit { branch, kind })),
+        None => Ok(None),
+    }
+}
+
+/// The value that a line is, where it is JSON.
+fn json_of(alloc: Global, line: &[u8]) -> Result<Option<Json>, NoMemory>
+    ensures { IfOk result (λ found. option_map view found ≡ spec.json_of line.now) }
+{
+    match Json::from_slice(alloc, line) {
+        Ok(json) => Ok(Some(json)),
+        Err(error) => {
+            if error.is_memory() {
+                Err(NoMemory)
+            } else {
+                Ok(None)
+            }
+        }
+    }
+}
+
+/// The edit that a line is.
+///
+/// - Shape: the line's bytes without its line feed.
+/// - Error: `BadJson` exactly where it is no JSON value, `BadEdit` exactly where the value is no edit.
+/// - Source: docs/FORMATS.md, "Edit lines".
+pub fn edit_of(alloc: Global, line: &[u8]) -> Result<Edit, EditFault>
+    ensures { Gives result (spec.edit_of line.now) }
+{
+    let Some(json) = json_of(alloc, line)? else {
+        return Err(EditFault::Refused(EditRefusal::BadJson));
+    };
+    match edit_in(alloc, &json)? {
+        Some(edit) => Ok(edit),
+        None => Err(EditFault::Refused(EditRefusal::BadEdit)),
+    }
+}

@@ -1,0 +1,76 @@
+//! Looking into JSON: fields of objects, and lists of things.
+ghost use Rattle.std.specs.Prelude.{◌≡◌, IfOk, Option, option_map};
+ghost use Rattle.serde_json.specs.Data.{Data};
+ghost use Rattle.serde_json.specs.Find.{as_str, as_array};
+ghost use Rattle.serde_json.specs.View.{view, items_view};
+ghost use Rattle.edit_wire.specs.Json as spec;
+
+use serde_json::Value as Json;
+use std::alloc::Global;
+use value_types::NoMemory;
+
+/// A thing that JSON may stand for.
+pub trait FromJson: Drop {
+    ghost meaning: { Data → Option Self };
+
+    fn from_json(alloc: Global, json: &Json) -> Result<Option<Self>, NoMemory>
+    where
+        Self: Sized,
+        ensures { IfOk result (λ found. found ≡ meaning (view json.now)) };
+}
+
+/// Whether it is an object with so many members.
+pub fn has_members(json: &Json, count: usize) -> bool
+    ensures { result ≡ spec.has_members count (view json.now) }
+{
+    match json.as_object() {
+        Some(members) => members.len() == count,
+        None => false,
+    }
+}
+
+/// The text that a field is.
+pub fn text_field<'v>(json: &'v Json, name: &str) -> Option<&'v str>
+    ensures { option_map (λ text. text.now) result ≡ spec.field as_str name.now (view json.now) }
+{
+    match json.get(name) {
+        Some(value) => value.as_str(),
+        None => None,
+    }
+}
+
+/// The list that a field is.
+pub fn list_field<'v>(json: &'v Json, name: &str) -> Option<&'v [Json]>
+    ensures { option_map (λ list. items_view list.now) result
+        ≡ spec.field as_array name.now (view json.now) }
+{
+    match json.get(name).and_then(Json::as_array) {
+        Some(list) => Some(list.as_slice()),
+        None => None,
+    }
+}
+
+/// The thing that a field is.
+pub fn field<T: FromJson>(alloc: Global, json: &Json, name: &str) -> Result<Option<T>, NoMemory>
+    ensures { IfOk result (λ found. found ≡ spec.field T.meaning name.now (view json.now)) }
+{
+    match json.get(name) {
+        Some(value) => T::from_json(alloc, value),
+        None => Ok(None),
+    }
+}
+
+/// The items of a list, if each of them is such a thing.
+pub fn all_of<T: FromJson>(alloc: Global, list: &[Json]) -> Result<Option<Vec<T>>, NoMemory>
+    ensures { IfOk result (λ found.
+        option_map (λ v. v.items) found ≡ spec.all_of T.meaning (items_view list.now)) }
+{
+    let mut found = Vec::new(alloc);
+    for json in list {
+        match T::from_json(alloc, json)? {
+            Some(value) => found.push(value)?,
+            None => return Ok(None),
+        }
+    }
+    Ok(Some(found))
+}
