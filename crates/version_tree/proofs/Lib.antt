@@ -1,0 +1,4 @@
+pub mod Cells
+pub mod Versions
+pub mod Distinct
+pub mod Examples
