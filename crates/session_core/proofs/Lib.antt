@@ -1,0 +1,5 @@
+pub mod Blocks
+pub mod Fronts
+pub mod Taken
+pub mod Turns
+pub mod Written

@@ -1,0 +1,81 @@
+-- One line: what the shelf told, and what is earned.
+use Rattle.std.proofs.Common.{◌≡◌, ◌<◌, ◌≤◌, ◌+◌, ◌-◌, ◌^◌, min, ℕ, zero, suc, List, [], ◌∷◌, ◌++◌, length, take, refl, ap, sym, ◌∙◌, subst, inl, inr, arith, Bool, true, false, cond, nat_le, Option, Some, None, Result, Ok, Err, IfOk}
+use Rattle.std.proofs.lemmas.List.{length_push, take_all, length-take}
+use Rattle.std.proofs.lemmas.Bool.{cases_lt, lt-leb}
+use Rattle.cell_model.specs.declared.fault.EditRefusal.{EditRefusal}
+use Rattle.cell_model.specs.declared.fault.EditRefusal.TheVariants as refusal
+use Rattle.line_reader.specs.Cut.{kept_most}
+use Rattle.edit_wire.specs.declared.edit.Edit.{Edit}
+use Rattle.edit_wire.specs.declared.edit.EditFault.TheVariants as fault
+use Rattle.edit_wire.specs.Wire.{edit_of}
+use Rattle.version_tree.specs.Calls.{Takes, Tells}
+use Rattle.version_tree.specs.Notebook.{NotebookData, step, asked, after}
+use Rattle.version_tree.specs.declared.told.Told.{Told}
+use Rattle.version_tree.specs.declared.told.Told.TheVariants as told
+use Rattle.report_text.specs.Report.{refusal_text}
+use Rattle.report_words.specs.Reports.{said, said_by, is_blank, MayTell, failure, after_said, earned, version_text, IsStarvedAt, IsStarvedText}
+use Rattle.report_words.specs.declared.said.Said.{Said}
+use Rattle.report_words.specs.declared.said.Said.TheVariants.{Nothing, Refuses, Edits}
+use Rattle.session_core.specs.Earned.{Took, Earns, EarnsText, earned_text, is_starved, IsWhole}
+use Rattle.session_core.specs.Books.{IsVersion, IsVersionText}
+use Rattle.session_core.specs.declared.earned.Earned.{Earned}
+use Rattle.session_core.specs.declared.earned.Earned.TheVariants as earned
+use Rattle.session_core.proofs.Fronts.{one_more}
+
+-- what was told may be told, and the count rose with it
+may_told : (files : Option (List (List ℕ × List ℕ))) (before now : ℕ) (name : Option (List ℕ)) (t : Told) → Tells files before now name t
+    → MayTell files name t × (min (before + failure t) (2 ^ 64 - 1) ≤ now)
+may_told files before now None told.NotAsked h = (tt, omega (arith, h))
+may_told files before now None told.Failed h = absurd h
+may_told files before now None (told.Got f) h = absurd h
+may_told files before now (Some name) told.NotAsked h = absurd h
+may_told files before now (Some name) told.Failed h = (tt, h)
+may_told files before now (Some name) (told.Got f) h = (h.1, omega (arith, h.0))
+
+-- an accepted edit makes one version
+pub step_grows : (book more : NotebookData) (edit : Edit) (t : Told) → step book edit t ≡ Ok more → length more.versions ≡ suc (length book.versions)
+step_grows book more edit t h =
+    let one = one_more book more edit t h in
+    omega (arith, ap (λ l. length l) one.versions, length_push book.versions (record { branch = edit.branch; cells = one.cells }))
+
+-- what the new version earns is what the line earns
+made_text : (b : Bool) (text : List ℕ) (book more : NotebookData) (line n : ℕ) (edit : Edit) (t : Told) → step book edit t ≡ Ok more → n ≡ length more.versions
+    → IsVersionText b text more n → EarnsText b text book line (Edits edit) t
+made_text false text book more line n edit t e is v = v ∙ ap (version_text more) is ∙ ap (earned line) (sym e)
+made_text true text book more line n edit t e is v =
+    let same : more ≡ after_said book (Edits edit) t = ap (after book) (sym e) in
+    let grows : n ≡ suc (length book.versions) = is ∙ step_grows book more edit t e in (
+      ap (λ (k : NotebookData). length k.versions) (sym same) ∙ step_grows book more edit t e,
+      subst (λ k. IsStarvedAt k (suc (length book.versions)) text) same (subst (λ k. IsStarvedAt more k text) grows v),
+    )
+
+pub took_made : {E : Type 0} (r : Result Earned E) (files : Option (List (List ℕ × List ℕ))) (before now : ℕ) (book more : NotebookData) (line n : ℕ) (edit : Edit)
+    → Takes (Ok n) files before now book edit more → IfOk r (λ e. IsVersion e more n) → IfOk r (λ e. Took files before now book line (Edits edit) e more)
+took_made (Err e) files before now book more line n edit a v = tt
+took_made (Ok x) files before now book more line n edit (t, tells, e, len) v =
+    let may = may_told files before now (asked book.versions edit) t tells in
+    (t, may.0, may.1, ap (after book) (sym e), made_text (is_starved x) (earned_text line x) book more line n edit t e len (v line))
+
+pub took_refused : (files : Option (List (List ℕ × List ℕ))) (before now : ℕ) (book more : NotebookData) (line : ℕ) (r : EditRefusal) (edit : Edit)
+    → Takes (Err (fault.Refused r)) files before now book edit more → Took files before now book line (Edits edit) (earned.Refusal r) more
+took_refused files before now book more line r edit (t, tells, e, same) =
+    let may = may_told files before now (asked book.versions edit) t tells in
+    (t, may.0, may.1, same ∙ ap (after book) (sym e), ap (earned line) (sym e))
+
+-- ---- what is kept of a line tells what it says
+
+said_where : (b : Bool) (line kept : List ℕ) → nat_le (length line) 65536 ≡ b → nat_le (length kept) 65536 ≡ b → (b ≡ true → kept ≡ line) → said kept ≡ said line
+unfolding said
+said_where true line kept x y h = ap said (h refl)
+said_where false line kept x y h =
+    ap (λ t. cond t (cond (is_blank kept) Nothing (said_by (edit_of kept))) (Refuses refusal.LineTooLong)) y
+    ∙ sym (ap (λ t. cond t (cond (is_blank line) Nothing (said_by (edit_of line))) (Refuses refusal.LineTooLong)) x)
+
+pub said_kept : (line kept : List ℕ) → kept ≡ take kept_most line → said kept ≡ said line
+said_kept line kept is =
+    elim (cases_lt 65536 (length line)) [
+      | inl lt ↦ said_where false line kept (lt-leb (length line) 65536 lt) (lt-leb (length kept) 65536 (omega (arith, lt, ap (λ (l : List ℕ). length l) is, length-take kept_most line))) (λ e. cc)
+      | inr le ↦
+          let all : kept ≡ line = is ∙ take_all kept_most line (omega (arith, le)) in
+          ap said all
+    ]

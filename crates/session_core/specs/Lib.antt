@@ -1,0 +1,3 @@
+pub mod Earned
+pub mod Books
+pub mod Turns
