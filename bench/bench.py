@@ -1,0 +1,205 @@
+"""Measures the program on inputs that it makes itself, and prints times, ratios and peak memory.
+
+    python3 bench/bench.py PROGRAM [WORDS]
+
+Each number is the best of several runs. A time is that of the whole process, from its start to its
+end. This process stays small, since the peak memory that the system tells of a child is at least
+that of the process which started it.
+"""
+import os
+import random
+import subprocess
+import sys
+import tempfile
+import time
+from collections import namedtuple
+
+MB = 1_000_000
+STREAM_LIMIT = 16_777_216
+LINE_LIMIT = 65_536
+CELLS = 40
+
+Run = namedtuple("Run", "seconds peak")
+
+# What Python does with the lines: its own time goes to standard output.
+JSON_LOADS = """
+import json, sys, time
+start = time.perf_counter()
+for line in sys.stdin.buffer:
+    json.loads(line)
+print(time.perf_counter() - start)
+"""
+
+
+# ---- runs
+
+def run_once(command, stream, output):
+    start = time.perf_counter()
+    with open(stream, "rb") as source:
+        process = subprocess.Popen(command, stdin=source, stdout=output)
+        _, status, used = os.wait4(process.pid, 0)
+    seconds = time.perf_counter() - start
+    process.returncode = os.waitstatus_to_exitcode(status)
+    if process.returncode != 0:
+        sys.exit(f"{command} ended with status {process.returncode}")
+    return Run(seconds, used.ru_maxrss * 1024 / MB)
+
+
+def to_file(command, stream, path):
+    with open(path, "wb") as output:
+        return run_once(command, stream, output)
+
+
+def to_pipe(command, stream):
+    cat = subprocess.Popen(["cat"], stdin=subprocess.PIPE, stdout=subprocess.DEVNULL)
+    try:
+        return run_once(command, stream, cat.stdin)
+    finally:
+        cat.stdin.close()
+        cat.wait()
+
+
+def best(count, run):
+    """The least time and the least peak of so many runs."""
+    runs = [run() for _ in range(count)]
+    return Run(min(it.seconds for it in runs), min(it.peak for it in runs))
+
+
+def json_loads(stream):
+    """The time of Python's own loop over the lines, and the peak of that process."""
+    with open(stream, "rb") as source:
+        process = subprocess.Popen([sys.executable, "-c", JSON_LOADS], stdin=source,
+                                   stdout=subprocess.PIPE)
+        seconds = float(process.stdout.read())
+        process.stdout.close()
+        _, status, used = os.wait4(process.pid, 0)
+        process.returncode = os.waitstatus_to_exitcode(status)
+    return Run(seconds, used.ru_maxrss * 1024 / MB)
+
+
+# ---- streams
+
+def write_lines(path, lines):
+    """Writes the lines, and tells how many there are and how long the stream is."""
+    count = size = 0
+    with open(path, "w", encoding="ascii") as file:
+        for line in lines:
+            file.write(line + "\n")
+            count += 1
+            size += len(line) + 1
+    return count, size
+
+
+def no_edits():
+    """Lines of about 3,000 bytes that are JSON objects but no edits, up to the stream's limit."""
+    numbers = random.Random(16)
+    left = STREAM_LIMIT
+    while True:
+        items = []
+        while sum(map(len, items)) < 2900:
+            items.append('{"id":%d,"name":"customer %d","price":%d.%02d,"tags":["new","paid"],"open":%s,"note":null}'
+                         % (numbers.randrange(10**9), numbers.randrange(10**6), numbers.randrange(1000),
+                            numbers.randrange(100), numbers.choice(("true", "false"))))
+        line = '{"edit":"note","branch":"main","items":[%s]}' % ",".join(items)
+        left -= len(line) + 1
+        if left < 0:
+            return
+        yield line
+
+
+def make_cell(name, rows):
+    return '{"make":"%s","columns":[["n","int"],["t","text"]],"rows":[%s]}' % (name, ",".join(rows))
+
+
+def appended(name, rows):
+    return '{"edit":"append","branch":"main","cell":%s}' % make_cell(name, rows)
+
+
+def long_report():
+    """Appends of 48 cells, each of nearly as many rows as a line has room for."""
+    rows, room = [], LINE_LIMIT - len(appended("t48", []))
+    while True:
+        row = '[%d,"row %d"]' % (len(rows) * 7919, len(rows))
+        room -= len(row) + 1
+        if room < 0:
+            break
+        rows.append(row)
+    for number in range(1, 49):
+        yield appended("t%d" % number, rows)
+
+
+def versions(place, count):
+    """Appends of 40 cells, and then so many edits that change the cell at a place."""
+    rows = ['[%d,"row %d"]' % (n, n) for n in range(50)]
+    for number in range(1, CELLS + 1):
+        yield appended("t%d" % number, rows)
+    for _ in range(count):
+        yield '{"edit":"update","branch":"main","at":%d,"cell":%s}' % (place, make_cell("t%d" % place, rows))
+
+
+# ---- measurements
+
+def measure_lines(command, folder):
+    stream, output = os.path.join(folder, "stream"), os.path.join(folder, "output")
+    count, size = write_lines(stream, no_edits())
+    ours = best(5, lambda: to_file(command, stream, output))
+    python = best(5, lambda: json_loads(stream))
+    with open(output, "rb") as file:
+        refused = sum(line.endswith(b" refused E2 BadEdit\n") for line in file)
+    if refused != count:
+        sys.exit(f"{refused} of {count} lines were refused as no edit")
+    print(f"lines that are no edit: {count} lines, {size / MB:.1f} MB")
+    print(f"  program     {ours.seconds:8.3f} s  {size / MB / ours.seconds:8.0f} MB/s  peak {ours.peak:6.1f} MB")
+    print(f"  json.loads  {python.seconds:8.3f} s  {size / MB / python.seconds:8.0f} MB/s  peak {python.peak:6.1f} MB")
+    print(f"  ratio of times, program to json.loads: {ours.seconds / python.seconds:.2f}")
+
+
+def measure_report(command, folder):
+    stream, output = os.path.join(folder, "stream"), os.path.join(folder, "output")
+    count, size = write_lines(stream, long_report())
+    file = best(3, lambda: to_file(command, stream, output))
+    written = os.path.getsize(output)
+    pipe = best(3, lambda: to_pipe(command, stream))
+    print(f"a long report: {count} versions, {size / MB:.1f} MB in, {written / MB:.1f} MB out")
+    for name, it in (("to a file", file), ("to a pipe", pipe)):
+        print(f"  {name}   {it.seconds:8.3f} s  {written / MB / it.seconds:8.0f} MB/s  peak {it.peak:6.1f} MB")
+
+
+def measure_versions(command, folder):
+    """Edits of the last cell beside edits of the first one, of which a notebook has room for 18."""
+    stream, output = os.path.join(folder, "stream"), os.path.join(folder, "output")
+
+    def time_of(place, count):
+        write_lines(stream, versions(place, count))
+        run = best(15, lambda: to_file(command, stream, output))
+        return run, os.path.getsize(output)
+
+    base, _ = time_of(1, 0)
+    first, written = time_of(1, 18)
+    last, as_much = time_of(CELLS, 18)
+    if abs(written - as_much) > written // 1000:
+        sys.exit("the two reports are not of about one length")
+    many, in_all = time_of(CELLS, 160)
+    by_first, by_last = first.seconds - base.seconds, last.seconds - base.seconds
+    print(f"versions of {CELLS} cells, after {CELLS} appends that take {1000 * base.seconds:.1f} ms")
+    print(f"  18 edits of the first cell  {1000 * by_first:8.2f} ms more, {written / MB:.1f} MB out in all")
+    print(f"  18 edits of the last cell   {1000 * by_last:8.2f} ms more, as much out")
+    print(f"  ratio, first to last: {by_first / by_last:.2f}")
+    print(f"  200 versions, each edit of the last cell: {1000 * many.seconds:.1f} ms, "
+          f"{in_all / MB:.1f} MB out, peak {many.peak:.1f} MB")
+
+
+def main(words):
+    if not words:
+        print(__doc__)
+        return 2
+    command = [os.path.abspath(word) if os.path.exists(word) else word for word in words] + ["serial"]
+    room = "/dev/shm" if os.path.isdir("/dev/shm") else None
+    for measure in (measure_lines, measure_report, measure_versions):
+        with tempfile.TemporaryDirectory(dir=room) as folder:
+            measure(command, folder)
+    return 0
+
+
+if __name__ == "__main__":
+    sys.exit(main(sys.argv[1:]))

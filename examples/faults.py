@@ -1,0 +1,136 @@
+"""Runs the program over inputs and outputs that fail, and compares its status and what it says.
+
+    python3 examples/faults.py PROGRAM [WORDS]
+
+The last line is `N passed, M failed`, and the status is 1 where a check failed.
+"""
+import os
+import shutil
+import subprocess
+import sys
+import tempfile
+
+SECONDS = 120
+STREAM_LIMIT = 16777216
+LINE = (b'{"edit":"append","branch":"main","cell":{"make":"t",'
+        b'"columns":[["a","int"],["b","text"]],"rows":[[1,"x"],[2,null]]}}\n')
+WIDE = (b'{"edit":"append","branch":"main","cell":{"make":"t",'
+        b'"columns":[["b","text"]],"rows":[["' + 50000 * b"x" + b'"]]}}\n')
+
+
+def ended(status, errors, wanted, name):
+    """What is wrong with the status, or with the line on standard error where it isn't 0."""
+    wrong = []
+    if status != wanted:
+        wrong.append(f"the status is {status}, and {wanted} is wanted")
+    line = f"vizier: {name}"
+    if name and line not in errors.decode("utf-8", "backslashreplace").split("\n"):
+        wrong.append(f"not on standard error: {line}")
+    return wrong
+
+
+def to_a_full_disk(command, stream):
+    with open("/dev/full", "wb") as full:
+        run = subprocess.run(command + ["serial"], input=stream, stdout=full,
+                             stderr=subprocess.PIPE, timeout=SECONDS)
+    return run.returncode, run.stderr
+
+
+def a_report_to_a_full_disk_is_a_write_fault(command):
+    status, errors = to_a_full_disk(command, LINE)
+    return ended(status, errors, 3, "WriteFault")
+
+
+def a_write_fault_comes_before_a_stream_that_is_too_long(command):
+    status, errors = to_a_full_disk(command, LINE + STREAM_LIMIT * b"\n")
+    return ended(status, errors, 3, "WriteFault")
+
+
+def nothing_to_write_is_no_fault_of_a_full_disk(command):
+    status, errors = to_a_full_disk(command, b"\n \n")
+    return ended(status, errors, 0, None)
+
+
+def a_reader_that_leaves_is_a_write_fault(command):
+    """The reader takes ten bytes of a report that is longer than any pipe holds, and closes.
+
+    The program is started with SIGPIPE ignored: else that signal ends it before a write can fail.
+    """
+    with tempfile.TemporaryFile() as stream:
+        stream.write(40 * WIDE)
+        stream.seek(0)
+        run = subprocess.Popen(command + ["serial"], stdin=stream, stdout=subprocess.PIPE,
+                               stderr=subprocess.PIPE, bufsize=0, restore_signals=False)
+        first = b""
+        while len(first) < 10 and (more := run.stdout.read(10 - len(first))):
+            first += more
+        run.stdout.close()
+        errors = run.stderr.read()
+        run.stderr.close()
+        status = run.wait(SECONDS)
+    wrong = ended(status, errors, 3, "WriteFault")
+    if first != b"version 1 ":
+        wrong.append(f"the first ten bytes are {first}")
+    return wrong
+
+
+def on_a_folder(command, words):
+    """The program over a standard input that is a folder, which no read of bytes can read."""
+    with tempfile.TemporaryDirectory() as folder:
+        handle = os.open(folder, os.O_RDONLY)
+        try:
+            return subprocess.run(command + words, stdin=handle, stdout=subprocess.PIPE,
+                                  stderr=subprocess.PIPE, timeout=SECONDS)
+        finally:
+            os.close(handle)
+
+
+def an_input_that_cannot_be_read_is_a_read_fault(command):
+    run = on_a_folder(command, ["serial"])
+    wrong = ended(run.returncode, run.stderr, 2, "ReadFault")
+    if run.stdout:
+        wrong.append(f"it wrote {run.stdout}")
+    return wrong
+
+
+def nothing_is_read_where_the_words_are_wrong(command):
+    run = on_a_folder(command, ["serial", "serial"])
+    return ended(run.returncode, run.stderr, 1, "BadWords")
+
+
+CHECKS = (
+    a_report_to_a_full_disk_is_a_write_fault,
+    a_write_fault_comes_before_a_stream_that_is_too_long,
+    nothing_to_write_is_no_fault_of_a_full_disk,
+    a_reader_that_leaves_is_a_write_fault,
+    an_input_that_cannot_be_read_is_a_read_fault,
+    nothing_is_read_where_the_words_are_wrong,
+)
+
+
+def main(words):
+    if not words:
+        print(__doc__)
+        return 2
+    command = [os.path.abspath(word) if os.path.exists(word) else word for word in words]
+    if shutil.which(command[0]) is None:
+        print(f"there is no program {words[0]}\n0 passed, {len(CHECKS)} failed")
+        return 1
+    passed = failed = 0
+    for check in CHECKS:
+        try:
+            wrong = check(command)
+        except (OSError, subprocess.TimeoutExpired) as fault:
+            wrong = [str(fault)]
+        if wrong:
+            failed += 1
+            print(f"FAILED {check.__name__}")
+            print("\n".join("    " + line for line in wrong))
+        else:
+            passed += 1
+    print(f"{passed} passed, {failed} failed")
+    return 1 if failed else 0
+
+
+if __name__ == "__main__":
+    sys.exit(main(sys.argv[1:]))
