@@ -1,4 +1,5 @@
 pub mod EnvLemmas
 pub mod TableLemmas
 pub mod RuleLemmas
+pub mod PlainLemmas
 mod Examples

@@ -10,7 +10,7 @@ use Rattle.dataset_types.specs.declared.row.Row.{Row}
 use Rattle.dataset_types.specs.Tables.{Distinct, row_ids, numbered}
 
 -- nothing stands in the empty list
-empty_contains : {A : Type 0} (x : A) → Contains [] x → ⊥
+pub empty_contains : {A : Type 0} (x : A) → Contains [] x → ⊥
 empty_contains x c = absurd (omega (arith, c.1))
 
 Contains-later : {A : Type 0} (y : A) (ys : List A) (x : A) → Contains ys x → Contains (y ∷ ys) x
@@ -28,7 +28,7 @@ Distinct-push (y ∷ ys) x d new = (
 )
 
 -- what stands in a list is its first item or stands in the rest
-Contains-cases : {A : Type 0} (y : A) (ys : List A) (x : A) → Contains (y ∷ ys) x → (y ≡ x) ⊎ Contains ys x
+pub Contains-cases : {A : Type 0} (y : A) (ys : List A) (x : A) → Contains (y ∷ ys) x → (y ≡ x) ⊎ Contains ys x
 Contains-cases {A} y ys x c = at c.0 c.1 c.2
   where
     at : (k : ℕ) → k < length (y ∷ ys) → get_or (y ∷ ys) k x ≡ x → (y ≡ x) ⊎ Contains ys x
@@ -85,7 +85,7 @@ module _ {A B : Type 0} (key : A → B) where
 pub distinct_one : {A : Type 0} (x : A) → Distinct (x ∷ [])
 distinct_one x = (empty_contains x, tt)
 
-Rec_number : (a b : ℕ) → Rec a ≡ Rec b → a ≡ b
+pub Rec_number : (a b : ℕ) → Rec a ≡ Rec b → a ≡ b
 Rec_number a b e =
     let same : RowId-F.Rec a ≡ RowId-F.Rec b = sym (outs-Rec a) ∙ (ap out-RowId e ∙ outs-Rec b) in
     cc

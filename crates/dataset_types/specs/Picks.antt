@@ -12,8 +12,13 @@ same_site (site.Record n) (site.Record m) = n == m
 same_site (site.Call c) (site.Call d) = c == d
 same_site a b = false
 
+-- whether the pick is for this site of this cell
 abbrev pub is_for : Pick → ℕ → Site → Bool
 is_for pick cell site = pick.cell == cell && same_site pick.site site
+
+-- the pick with these parts
+abbrev pub pick_of : ℕ → Site → Choice → Pick
+pick_of cell site choice = record { cell = cell; site = site; choice = choice }
 
 -- the second, or the first where there is no second
 abbrev pub later : Option Choice → Option Choice → Option Choice

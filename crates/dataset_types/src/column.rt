@@ -15,6 +15,7 @@ pub struct Column {
 pub type Columns = ListOf<Column>;
 
 impl Column {
+    /// An equal column.
     pub fn copy(&self, _alloc: Global) -> Result<Column, NoMemory>
         ensures { IfOk result (λ c. c ≡ self.now) }
     {

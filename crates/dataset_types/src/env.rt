@@ -1,5 +1,5 @@
 //! Environments: the slot of each name.
-ghost use Rattle.std.specs.Prelude.{◌≡◌, ◌++◌, ◌∷◌, [], true, IfOk, OnOk, OnErr};
+ghost use Rattle.std.specs.Prelude.{◌≡◌, ◌++◌, ◌∷◌, [], true, Ok, IfOk, OnOk, OnErr};
 ghost use Rattle.std.specs.Option.{option_copied};
 ghost use Rattle.dataset_types.specs.Slots.{find_slot};
 ghost use Rattle.dataset_types.specs.Envs.{empty_env, look, set_slot, set_name, set_names, blur_env, blur_slots};
@@ -35,7 +35,7 @@ impl Env {
     /// No names, and no doubt.
     #[tactic(auto, using(crate::proofs::EnvLemmas::in_order_none))]
     pub fn new(alloc: Global) -> Result<Env, NoMemory>
-        ensures { IfOk result (λ e. e ≡ empty_env) }
+        ensures { result ≡ Ok empty_env }
     {
         Ok(Env {
             slots: ListOf::new(alloc)?,
@@ -43,18 +43,21 @@ impl Env {
         })
     }
 
+    /// The names that are listed, in ascending order, each with its slot.
     pub fn slots(&self) -> &Slots
         ensures { result.now ≡ self.now.slots }
     {
         &self.slots
     }
 
+    /// Whether every name that isn't listed is in doubt.
     pub fn is_blurred(&self) -> bool
         ensures { result ≡ self.now.blurred }
     {
         self.blurred
     }
 
+    /// An equal environment.
     pub fn copy(&self, alloc: Global) -> Result<Env, NoMemory>
         ensures { IfOk result (λ e. e ≡ self.now) }
     {

@@ -6,7 +6,9 @@
 
 mod column;
 mod env;
+mod fitting;
 mod laws;
+mod load_options;
 mod picks;
 mod row;
 mod rules;
@@ -17,7 +19,9 @@ mod tests;
 
 pub use column::{Column, Columns};
 pub use env::Env;
+pub use fitting::fitted;
 pub use laws::{law_of_numbers, law_of_order, law_of_reading};
+pub use load_options::{Repair, Types};
 pub use picks::{Choice, Pick, Picks, Site};
 pub use row::{Marked, MarkedValues, Row, Rows};
 pub use rules::{all_sure, names_distinct, rows_fit};

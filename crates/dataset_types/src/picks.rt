@@ -1,7 +1,7 @@
 //! Picks: other choices at caveated places.
-ghost use Rattle.std.specs.Prelude.{◌≡◌, ◌++◌, ◌∷◌, [], IfOk, OnOk, OnErr};
+ghost use Rattle.std.specs.Prelude.{◌≡◌, ◌++◌, ◌∷◌, [], Ok, IfOk, OnOk, OnErr};
 ghost use Rattle.std.specs.Option.{option_copied};
-ghost use Rattle.dataset_types.specs.Picks.{same_site, choice_of};
+ghost use Rattle.dataset_types.specs.Picks.{same_site, choice_of, pick_of};
 
 use std::alloc::Global;
 use std::marker::Model;
@@ -68,6 +68,7 @@ fn same_site(a: &Site, b: &Site) -> bool
 }
 
 impl Choice {
+    /// An equal choice.
     pub fn copy(&self, alloc: Global) -> Result<Choice, NoMemory>
         ensures { IfOk result (λ c. c ≡ self.now) }
     {
@@ -79,6 +80,7 @@ impl Choice {
 }
 
 impl Pick {
+    /// An equal pick.
     pub fn copy(&self, alloc: Global) -> Result<Pick, NoMemory>
         ensures { IfOk result (λ p. p ≡ self.now) }
     {
@@ -99,7 +101,7 @@ impl Copied for Pick {
 impl Picks {
     /// No picks.
     pub fn new(alloc: Global) -> Result<Picks, NoMemory>
-        ensures { IfOk result (λ p. p ≡ []) }
+        ensures { result ≡ Ok [] }
     {
         Ok(Picks {
             items: ListOf::new(alloc)?,
@@ -114,7 +116,7 @@ impl Picks {
         site: Site,
         choice: Choice,
     ) -> Result<(), NoMemory>
-        ensures ok { OnOk result (self.new ≡ self.old ++ record { cell = cell; site = site; choice = choice } ∷ []) }
+        ensures ok { OnOk result (self.new ≡ self.old ++ pick_of cell site choice ∷ []) }
         ensures err { OnErr result (self.new ≡ self.old) }
     {
         self.items.push(alloc, Pick { cell, site, choice })
@@ -133,6 +135,7 @@ impl Picks {
         found
     }
 
+    /// Equal picks.
     pub fn copy(&self, alloc: Global) -> Result<Picks, NoMemory>
         ensures { IfOk result (λ p. p ≡ self.now) }
     {

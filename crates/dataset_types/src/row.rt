@@ -26,6 +26,7 @@ pub struct Row {
 pub type Rows = ListOf<Row>;
 
 impl Marked {
+    /// An equal value.
     pub fn copy(&self, alloc: Global) -> Result<Marked, NoMemory>
         ensures { IfOk result (λ m. m ≡ self.now) }
     {
@@ -43,6 +44,7 @@ impl Copied for Marked {
 }
 
 impl Row {
+    /// An equal row.
     pub fn copy(&self, alloc: Global) -> Result<Row, NoMemory>
         ensures { IfOk result (λ r. r ≡ self.now) }
     {

@@ -44,6 +44,7 @@ impl Slot {
         }
     }
 
+    /// An equal slot.
     pub fn copy(&self, alloc: Global) -> Result<Slot, NoMemory>
         ensures { IfOk result (λ s. s ≡ self.now) }
     {
@@ -59,6 +60,7 @@ impl Slot {
 }
 
 impl Named {
+    /// An equal entry.
     pub fn copy(&self, alloc: Global) -> Result<Named, NoMemory>
         ensures { IfOk result (λ n. n ≡ self.now) }
     {

@@ -85,30 +85,35 @@ impl Table {
         let _columns = &self.columns;
     }
 
+    /// Its columns, in order.
     pub fn columns(&self) -> &Columns
         ensures { result.now ≡ self.now.columns }
     {
         &self.columns
     }
 
+    /// Its rows, in order.
     pub fn rows(&self) -> &Rows
         ensures { result.now ≡ self.now.rows }
     {
         &self.rows
     }
 
+    /// Whether it may lack rows or have others.
     pub fn is_open(&self) -> bool
         ensures { result ≡ self.now.is_open }
     {
         self.is_open
     }
 
+    /// Whether the order of its rows is uncertain.
     pub fn is_loose(&self) -> bool
         ensures { result ≡ self.now.is_loose }
     {
         self.is_loose
     }
 
+    /// An equal table.
     pub fn copy(&self, alloc: Global) -> Result<Table, NoMemory>
         ensures { IfOk result (λ t. t ≡ self.now) }
     {

@@ -32,6 +32,7 @@ impl<T> ArcOf<T> {
 }
 
 impl<T: Drop> ArcOf<T> {
+    /// The value, to be shared.
     pub fn new(alloc: Global, value: T) -> Result<ArcOf<T>, NoMemory>
         ensures { IfOk result (λ s. s ≡ value) }
     {

@@ -22,6 +22,7 @@ impl Model for Bytes {
 }
 
 impl Bytes {
+    /// No bytes, which takes no memory.
     pub fn new(alloc: Global) -> Result<Bytes, NoMemory>
         ensures { result ≡ Ok [] }
     {
@@ -30,6 +31,7 @@ impl Bytes {
         })
     }
 
+    /// A copy of these bytes.
     pub fn from_slice(alloc: Global, bytes: &[u8]) -> Result<Bytes, NoMemory>
         ensures { IfOk result (λ b. b ≡ bytes.now) }
     {
@@ -38,6 +40,7 @@ impl Bytes {
         })
     }
 
+    /// One byte more, the last.
     pub fn push(&mut self, _alloc: Global, byte: u8) -> Result<(), NoMemory>
         ensures ok { OnOk result (self.new ≡ self.old ++ byte ∷ []) }
         ensures err { OnErr result (self.new ≡ self.old) }
@@ -46,6 +49,7 @@ impl Bytes {
         Ok(())
     }
 
+    /// More bytes after its own.
     pub fn push_slice(&mut self, _alloc: Global, bytes: &[u8]) -> Result<(), NoMemory>
         ensures ok { OnOk result (self.new ≡ self.old ++ bytes.now) }
         ensures err { OnErr result (self.new ≡ self.old) }
@@ -54,30 +58,35 @@ impl Bytes {
         Ok(())
     }
 
+    /// No bytes are left; the memory is kept.
     pub fn clear(&mut self)
         ensures { self.new ≡ [] }
     {
         self.bytes.clear();
     }
 
+    /// How many there are.
     pub fn len(&self) -> usize
         ensures { result ≡ length self.now }
     {
         self.bytes.len()
     }
 
+    /// The byte at a place, counted from 0; none exactly where there is no such place.
     pub fn get(&self, at: usize) -> Option<u8>
         ensures { result ≡ slice_get self.now at }
     {
         self.bytes.as_slice().get(at).copied()
     }
 
+    /// The bytes, lent.
     pub fn as_slice(&self) -> &[u8]
         ensures { result.now ≡ self.now }
     {
         self.bytes.as_slice()
     }
 
+    /// Equal bytes.
     pub fn copy(&self, alloc: Global) -> Result<Bytes, NoMemory>
         ensures { IfOk result (λ b. b ≡ self.now) }
     {

@@ -1,4 +1,5 @@
-ghost use Rattle.std.specs.Prelude.{◌≡◌, [], ◌∷◌, ◌++◌, length, slice_get, take, OnOk, OnErr, IfOk};
+//! Lists of any values, and how a value is written again.
+ghost use Rattle.std.specs.Prelude.{◌≡◌, [], ◌∷◌, ◌++◌, length, slice_get, Ok, OnOk, OnErr, IfOk};
 ghost use Rattle.std.specs.Option.{option_copied};
 
 use crate::memory::NoMemory;
@@ -7,6 +8,7 @@ use std::marker::Model;
 
 /// A value that can be written again.
 pub trait Copied {
+    /// An equal value.
     fn copied(&self, alloc: Global) -> Result<Self, NoMemory>
         ensures { IfOk result (λ v. v ≡ self.now) };
 }
@@ -29,26 +31,30 @@ impl<T> Model for ListOf<T> {
 }
 
 impl<T> ListOf<T> {
+    /// The empty list, which takes no memory.
     pub fn new(alloc: Global) -> Result<ListOf<T>, NoMemory>
-        ensures { IfOk result (λ it. it ≡ []) }
+        ensures { result ≡ Ok [] }
     {
         Ok(ListOf {
             items: Vec::new(alloc),
         })
     }
 
+    /// How many items it has.
     pub fn len(&self) -> usize
         ensures { result ≡ length self.now }
     {
         self.items.len()
     }
 
+    /// The item at a place, counted from 0; none exactly where the list has no such place.
     pub fn get(&self, at: usize) -> Option<&T>
         ensures { option_copied result ≡ slice_get self.now at }
     {
         self.items.get(at)
     }
 
+    /// The items, as std has them.
     pub fn into_vec(self) -> Vec<T>
         ensures { result.items ≡ self }
     {
@@ -56,12 +62,14 @@ impl<T> ListOf<T> {
         items
     }
 
+    /// The list of these items, which takes no memory.
     pub fn from_vec(_alloc: Global, items: Vec<T>) -> Result<ListOf<T>, NoMemory>
-        ensures { IfOk result (λ it. it ≡ items.items) }
+        ensures { result ≡ Ok items.items }
     {
         Ok(ListOf { items })
     }
 
+    /// The items, lent.
     pub fn as_slice(&self) -> &[T]
         ensures { result.now ≡ self.now }
     {
@@ -70,6 +78,7 @@ impl<T> ListOf<T> {
 }
 
 impl<T: Drop> ListOf<T> {
+    /// One item more, the last.
     pub fn push(&mut self, _alloc: Global, item: T) -> Result<(), NoMemory>
         ensures ok { OnOk result (self.new ≡ self.old ++ item ∷ []) }
         ensures err { OnErr result (self.new ≡ self.old) }
@@ -78,6 +87,7 @@ impl<T: Drop> ListOf<T> {
         Ok(())
     }
 
+    /// The items of another list after its own.
     pub fn append(&mut self, alloc: Global, more: ListOf<T>) -> Result<(), NoMemory>
         ensures { OnOk result (self.new ≡ self.old ++ more) }
     {
@@ -89,6 +99,7 @@ impl<T: Drop> ListOf<T> {
 }
 
 impl<T: Copied + Drop> ListOf<T> {
+    /// An equal list.
     pub fn copy(&self, alloc: Global) -> Result<ListOf<T>, NoMemory>
         ensures { IfOk result (λ it. it ≡ self.now) }
     {

@@ -31,6 +31,7 @@ impl Model for Name {
 pub type Names = ListOf<Name>;
 
 impl Name {
+    /// The bytes of the name, lent.
     pub fn as_slice(&self) -> &[u8]
         ensures value { result.now ≡ self.now }
         ensures name { IsTrue (is_name result.now) }
@@ -38,6 +39,7 @@ impl Name {
         &self.bytes[..self.len as usize]
     }
 
+    /// How many bytes it has, 1 to 32.
     pub fn len(&self) -> usize
         ensures value { result ≡ length self.now }
         ensures bound { result ≤ 32 }

@@ -1,3 +1,4 @@
+//! The ids of rows.
 ghost use Rattle.std.specs.Prelude.{◌≡◌, IfOk};
 ghost use Rattle.value_types.specs.SameIds.{same_id};
 
@@ -30,6 +31,7 @@ pub enum RowId {
 }
 
 impl RowId {
+    /// An equal id.
     pub fn copy(&self, alloc: Global) -> Result<RowId, NoMemory>
         ensures { IfOk result (λ id. id ≡ self.now) }
     {

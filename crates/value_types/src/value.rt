@@ -1,3 +1,4 @@
+//! Values and their types.
 ghost use Rattle.std.specs.Prelude.{◌≡◌, IfOk};
 
 use crate::list::{Copied, ListOf};
@@ -40,6 +41,12 @@ impl Eq for ColumnType {
     ghost laws = { type_equiv };
 }
 
+impl Copied for Option<ColumnType> {
+    fn copied(&self, _alloc: Global) -> Result<Option<ColumnType>, NoMemory> {
+        Ok(*self)
+    }
+}
+
 /// A value of a dataset.
 #[derive(Debug, Drop)]
 pub enum Value {
@@ -52,6 +59,7 @@ pub enum Value {
 }
 
 impl Value {
+    /// An equal value.
     pub fn copy(&self, alloc: Global) -> Result<Value, NoMemory>
         ensures { IfOk result (λ v. v ≡ self.now) }
     {

@@ -1,4 +1,5 @@
-ghost use Rattle.std.specs.Prelude.{◌≡◌, [], ◌∷◌, ◌++◌, length, slice_get, encode_utf8, OnOk, OnErr, IfOk};
+//! Texts.
+ghost use Rattle.std.specs.Prelude.{◌≡◌, [], ◌∷◌, ◌++◌, length, slice_get, encode_utf8, Ok, OnOk, OnErr, IfOk};
 ghost use Rattle.std.specs.Option.{option_copied};
 
 use crate::memory::NoMemory;
@@ -21,14 +22,16 @@ impl Model for Words {
 }
 
 impl Words {
+    /// The empty text, which takes no memory.
     pub fn new(alloc: Global) -> Result<Words, NoMemory>
-        ensures { IfOk result (λ w. w ≡ []) }
+        ensures { result ≡ Ok [] }
     {
         Ok(Words {
             text: String::new(alloc),
         })
     }
 
+    /// A text after its own.
     pub fn push_text(&mut self, _alloc: Global, text: &str) -> Result<(), NoMemory>
         ensures ok { OnOk result (self.new ≡ self.old ++ text.now) }
         ensures err { OnErr result (self.new ≡ self.old) }
@@ -37,6 +40,7 @@ impl Words {
         Ok(())
     }
 
+    /// One character more, the last.
     pub fn push_char(&mut self, _alloc: Global, c: char) -> Result<(), NoMemory>
         ensures ok { OnOk result (self.new ≡ self.old ++ encode_utf8 c) }
         ensures err { OnErr result (self.new ≡ self.old) }
@@ -45,30 +49,35 @@ impl Words {
         Ok(())
     }
 
+    /// How many bytes it has.
     pub fn len(&self) -> usize
         ensures { result ≡ length self.now }
     {
         self.text.len()
     }
 
+    /// The byte at a place, counted from 0; none exactly where the text has no such place.
     pub fn get(&self, at: usize) -> Option<u8>
         ensures { result ≡ slice_get self.now at }
     {
         self.text.as_bytes().get(at).copied()
     }
 
+    /// The text, lent.
     pub fn as_text(&self) -> &str
         ensures { result.now ≡ self.now }
     {
         self.text.as_str()
     }
 
+    /// Its bytes, lent.
     pub fn as_bytes(&self) -> &[u8]
         ensures { result.now ≡ self.now }
     {
         self.text.as_bytes()
     }
 
+    /// An equal text.
     pub fn copy(&self, alloc: Global) -> Result<Words, NoMemory>
         ensures { IfOk result (λ w. w ≡ self.now) }
     {
