@@ -1,3 +1,4 @@
 mod Examples
 pub mod Feeds
 pub mod Steps
+pub mod Texts
