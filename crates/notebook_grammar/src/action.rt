@@ -1,0 +1,120 @@
+//! The actions of the grammar, by which the crates above build trees.
+//!
+//! Each takes the pieces that were read last and leaves what it makes of them: `specs/Effects.antt`.
+
+/// An action of the grammar.
+#[derive(Clone, Copy, Drop, Debug)]
+pub enum Action {
+    Expr(ExprAction),
+    Select(SelectAction),
+    Script(ScriptAction),
+}
+
+/// Actions of expressions.
+#[derive(Clone, Copy, Drop, Debug)]
+pub enum ExprAction {
+    Begin,
+    End,
+    Or,
+    And,
+    Not,
+    Equal,
+    NotEqual,
+    Less,
+    AtMost,
+    Greater,
+    AtLeast,
+    Like,
+    In,
+    IsNull,
+    IsNotNull,
+    NotLike,
+    NotIn,
+    Concat,
+    Add,
+    Subtract,
+    Multiply,
+    Divide,
+    Remainder,
+    Minus,
+    TypeAsName,
+    Whole,
+    Decimal,
+    Quoted,
+    True,
+    False,
+    Null,
+    BeginArms,
+    Coalesce,
+    Cast,
+    Caveat,
+    Length,
+    Trim,
+    Abs,
+    Sum,
+    Min,
+    Max,
+    Qualified,
+    Bare,
+    BeginList,
+    Entry,
+    Arm,
+    CaseElse,
+    Case,
+    CountAll,
+    Count,
+}
+
+/// Actions of SELECT.
+#[derive(Clone, Copy, Drop, Debug)]
+pub enum SelectAction {
+    BeginCores,
+    Select,
+    BeginJoins,
+    Core,
+    Distinct,
+    NotDistinct,
+    AllItems,
+    BeginItems,
+    NamedItem,
+    PlainItem,
+    NamedTable,
+    PlainTable,
+    InnerJoin,
+    LeftJoin,
+    Condition,
+    NoCondition,
+    BeginColumns,
+    QualifiedColumn,
+    BareColumn,
+    BeginKeys,
+    Ascending,
+    Descending,
+    Limit,
+    NoLimit,
+}
+
+/// Actions of scripts.
+#[derive(Clone, Copy, Drop, Debug)]
+pub enum ScriptAction {
+    BeginBuilders,
+    BeginBlock,
+    Script,
+    BeginColumns,
+    Builder,
+    Column,
+    Print,
+    While,
+    For,
+    Emit,
+    Write,
+    Drop,
+    Exists,
+    Rows,
+    Assign,
+    IfElse,
+    If,
+    Range,
+    Named,
+    Computed,
+}
