@@ -1,0 +1,34 @@
+-- The marked readings of lists of operands, which the evaluator's loops go through.
+use Rattle.std.specs.Prelude.{ℕ, List, Option, option_map}
+use Rattle.value_types.specs.declared.value.Value.{Value}
+use Rattle.expr_lang.specs.declared.expr.Expr.{Expr}
+use Rattle.expr_lang.specs.declared.expr.Arm.{Arm, out-Arm}
+use Rattle.dataset_types.specs.declared.picks.Pick.{Pick}
+use Rattle.cell_errors.specs.Answers.{Answer}
+use Rattle.cell_errors.specs.Seen.{Seen, seen_then, unmarked}
+use Rattle.expr_meaning.specs.Settings.{MarkedSetting}
+use Rattle.expr_meaning.specs.Meaning.{marked_at}
+use Rattle.expr_meaning.specs.Forms.{all_then, or_equal, any_equal, first_value, first_arm, or_null}
+
+abbrev pub or_equal_marked : Seen Value → Value → Seen Value → Seen Value
+or_equal_marked = or_equal (Seen Value) seen_then unmarked
+
+abbrev pub any_equal_marked : Seen Value → Value → List (Seen Value) → Seen Value
+any_equal_marked = any_equal (Seen Value) seen_then unmarked
+
+abbrev pub first_value_marked : List (Seen Value) → Seen Value
+first_value_marked = first_value (Seen Value) seen_then unmarked
+
+abbrev pub first_arm_marked : List (Seen Value × Seen Value) → Seen Value → Seen Value
+first_arm_marked = first_arm (Seen Value) seen_then unmarked
+
+abbrev pub all_marked : List (Seen Value) → List Value → (List Value → Answer Value) → Seen Value
+all_marked = all_then (Seen Value) seen_then unmarked
+
+-- the condition and the answer of an arm
+abbrev pub arm_at : MarkedSetting → List Pick → ℕ → Arm → Seen Value × Seen Value
+arm_at s picks cell a = (marked_at s picks cell (out-Arm a).condition, marked_at s picks cell (out-Arm a).answer)
+
+-- what a CASE gives where no condition is TRUE
+abbrev pub otherwise_at : MarkedSetting → List Pick → ℕ → Option Expr → Seen Value
+otherwise_at s picks cell x = or_null (Seen Value) seen_then unmarked (option_map (marked_at s picks cell) x)
