@@ -1,27 +1,33 @@
 -- What each kind of cell gives, reads and may write.
 use Rattle.std.specs.Prelude.{ℕ, List, []}
+use Rattle.dataset_types.specs.declared.picks.Pick.{Pick}
 use Rattle.dataset_types.specs.declared.slot.Slot.{Slot}
 use Rattle.cell_model.specs.declared.cell.Cell.{Cell}
 use Rattle.cell_model.specs.declared.cell.CellKind.{CellKind}
 use Rattle.cell_model.specs.declared.cell.CellKind.TheVariants as kind
 use Rattle.cell_model.specs.declared.cell_result.CellResult.{CellResult}
 use Rattle.cell_model.specs.declared.work.Estimate.{Estimate}
+use Rattle.csv_load.specs.Load.{load_of}
 use Rattle.cell_kinds.specs.Make.{make_result}
+use Rattle.cell_kinds.specs.Load.{load_result}
 
--- what a cell of a kind gives in an environment
-abbrev pub kind_meaning : CellKind → (List ℕ → Slot) → CellResult
-kind_meaning (kind.Make name table) look = make_result name table
+-- what the cell with an id, under these picks, gives in an environment
+abbrev pub kind_meaning : ℕ → List Pick → CellKind → (List ℕ → Slot) → CellResult
+kind_meaning id picks (kind.Make name table) look = make_result name table
+kind_meaning id picks (kind.Load name bytes types repair) look = load_result name (load_of bytes types repair picks id)
 
 -- the names that it reads there, in order
 abbrev pub kind_names : CellKind → (List ℕ → Slot) → List (List ℕ)
 kind_names (kind.Make name table) look = []
+kind_names (kind.Load name bytes types repair) look = []
 
 -- the names that it may read and write
 abbrev pub kind_estimate : CellKind → Estimate
 kind_estimate (kind.Make name table) = record { reads = []; writes = [] }
+kind_estimate (kind.Load name bytes types repair) = record { reads = []; writes = [] }
 
 abbrev pub meaning : Cell → (List ℕ → Slot) → CellResult
-meaning cell look = kind_meaning cell.kind look
+meaning cell look = kind_meaning cell.id cell.picks cell.kind look
 
 abbrev pub names : Cell → (List ℕ → Slot) → List (List ℕ)
 names cell look = kind_names cell.kind look

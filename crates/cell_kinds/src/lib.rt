@@ -5,6 +5,7 @@
 #![tactic(auto)]
 
 mod kinds;
+mod load;
 mod make;
 #[cfg(test)]
 mod tests;

@@ -1,6 +1,6 @@
 -- Lists of slots in which no name stands twice.
-use Rattle.std.proofs.Common.{◌≡◌, ◌⊎◌, inl, inr, List, [], ◌∷◌, ◌++◌, map, length, arith, refl, zero, suc, sym, subst, ap, ◌∙◌, Result, Ok, Err, OnOk, OnErr, ℕ, ◌<◌}
-use Rattle.std.specs.Prelude.{◌↔◌, IsTrue, is_some, Bool, true, false, cond, Some, None, Option}
+use Rattle.std.proofs.Common.{◌≡◌, inl, inr, List, [], ◌∷◌, ◌++◌, arith, refl, zero, suc, sym, subst, Result, Ok, Err, OnOk, OnErr, ℕ}
+use Rattle.std.specs.Prelude.{◌↔◌, IsTrue, is_some, Bool, true, false, cond, Some, Option}
 use Rattle.std.specs.List.{Contains}
 use Rattle.std.specs.Str.{bytes_eq}
 use Rattle.std.proofs.lemmas.Slice.Eq.{bytes_eq-Decides}

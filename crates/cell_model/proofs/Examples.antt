@@ -1,21 +1,18 @@
 -- Worked examples of runs, over the small meaning.
-use Rattle.std.proofs.Common.{nat_eq, ◌≡◌, ℕ, List, [], ◌∷◌, refl, Option, None, Some, Bool, true, false, cond}
+use Rattle.std.proofs.Common.{◌≡◌, ℕ, List, [], ◌∷◌, refl, Some, true, false}
 use Rattle.std.specs.Prelude.{codes, map}
 use Rattle.dataset_types.specs.Tables.{TableData}
-use Rattle.dataset_types.specs.declared.slot.Slot.{Slot}
 use Rattle.dataset_types.specs.declared.slot.Named.{Named}
-use Rattle.dataset_types.specs.Envs.{EnvData, empty_env}
+use Rattle.dataset_types.specs.Envs.{empty_env}
 use Rattle.cell_model.specs.declared.cell.Cell.{Cell}
-use Rattle.cell_model.specs.declared.cell.CellKind.{CellKind}
 use Rattle.cell_model.specs.declared.cell.CellKind.TheVariants as kind
-use Rattle.cell_model.specs.declared.cell_result.CellResult.{CellResult}
 use Rattle.cell_model.specs.declared.cell_result.CellStatus.{CellStatus}
 use Rattle.cell_model.specs.declared.cell_result.CellStatus.TheVariants as status
-use Rattle.cell_model.specs.declared.fault.CellError.TheVariants as error
+use Rattle.cell_errors.specs.declared.fault.CellError.TheVariants as error
 use Rattle.cell_model.specs.declared.run.Policy.TheVariants as policy
-use Rattle.cell_model.specs.Runs.{StepData, is_ok, bare, IsBare, run_of, env_after}
+use Rattle.cell_model.specs.Runs.{StepData, run_of, env_after}
 use Rattle.cell_model.specs.Trails.{results_of}
-use Rattle.cell_model.specs.Sample.{one_write, doubted, sample_kind, sample_meaning}
+use Rattle.cell_model.specs.Sample.{sample_meaning}
 
 -- ---- three cells, the second of them in error
 

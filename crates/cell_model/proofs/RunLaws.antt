@@ -8,7 +8,7 @@ use Rattle.cell_model.specs.declared.cell_result.CellStatus.{CellStatus}
 use Rattle.cell_model.specs.declared.cell_result.CellStatus.TheVariants as status
 use Rattle.cell_model.specs.declared.run.Policy.{Policy}
 use Rattle.cell_model.specs.declared.run.Policy.TheVariants as policy
-use Rattle.cell_model.specs.Runs.{StepData, is_ok, bare, IsBare, goes_on, after_cell, next_result, step, run_from}
+use Rattle.cell_model.specs.Runs.{is_ok, bare, IsBare, goes_on, after_cell, next_result, step, run_from}
 use Rattle.cell_model.specs.Laws.{AllBlocked, StopsAtFault, FaultsKeepEnv, IsFreeOfErrors}
 use Rattle.cell_model.proofs.RunLemmas.{no_writes_stay}
 

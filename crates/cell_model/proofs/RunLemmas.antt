@@ -1,5 +1,5 @@
 -- Runs: their length, their cells, their fronts, and how they go on.
-use Rattle.std.proofs.Common.{nat_eq, ◌≡◌, ◌<◌, ◌≤◌, ◌+◌, ◌-◌, ℕ, zero, suc, List, [], ◌∷◌, ◌++◌, length, map, take, drop, get_or, refl, ap, sym, ◌∙◌, subst, Bool, true, false, arith}
+use Rattle.std.proofs.Common.{nat_eq, ◌≡◌, ◌<◌, ◌≤◌, ◌+◌, ◌-◌, ℕ, zero, suc, List, [], ◌∷◌, ◌++◌, length, take, drop, get_or, refl, ap, sym, ◌∙◌, subst, Bool, true, false, arith}
 use Rattle.std.proofs.lemmas.List.{length_push, take-append-drop, take_more, length-take-le, take_all}
 use Rattle.dataset_types.specs.declared.slot.Slot.{Slot}
 use Rattle.dataset_types.specs.Envs.{EnvData, empty_env, blur_slots, after_writes}

@@ -28,7 +28,7 @@ pub record Settles (settled : Settled) (steps : List StepData) : Type 0 where
   pub results : settled.results ≡ results_of steps
   pub env : settled.env ≡ env_after empty_env steps
 
--- the cells settled by the run, or where there are cells a position that it reaches
+-- the cells settled by the run, or a position that it reaches
 abbrev pub IsSettledRun : RunAll → Policy → List Cell → List StepData → Type 0
 IsSettledRun (all.Done settled) p cells run = (settled.cells ≡ cells) × Settles settled run
-IsSettledRun (all.Starved position) p cells run = 0 < length cells → IsReached p position run
+IsSettledRun (all.Starved position) p cells run = IsReached p position run

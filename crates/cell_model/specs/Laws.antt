@@ -1,9 +1,6 @@
 -- What holds of every serial run.
-use Rattle.std.specs.Prelude.{◌≡◌, ℕ, List, [], ◌∷◌, true, false}
-use Rattle.dataset_types.specs.declared.slot.Slot.{Slot}
+use Rattle.std.specs.Prelude.{◌≡◌, List, [], ◌∷◌, true, false}
 use Rattle.dataset_types.specs.Envs.{EnvData}
-use Rattle.cell_model.specs.declared.cell.Cell.{Cell}
-use Rattle.cell_model.specs.declared.cell_result.CellResult.{CellResult}
 use Rattle.cell_model.specs.declared.cell_result.CellStatus.TheVariants as status
 use Rattle.cell_model.specs.Runs.{StepData, is_ok, bare}
 

@@ -1,12 +1,11 @@
 -- The serial run of a list of cells under a policy, step by step.
-use Rattle.std.specs.Prelude.{◌≡◌, ◌<◌, ◌≤◌, ◌-◌, ℕ, zero, suc, ◌||◌, List, [], ◌∷◌, map, length, Bool, true, false, if◌then◌else◌}
+use Rattle.std.specs.Prelude.{◌≡◌, ℕ, zero, suc, ◌||◌, List, [], ◌∷◌, Bool, true, false, if◌then◌else◌}
 use Rattle.dataset_types.specs.declared.slot.Slot.{Slot}
 use Rattle.dataset_types.specs.Envs.{EnvData, look, set_slots, blur_slots, empty_env}
 use Rattle.cell_model.specs.declared.cell.Cell.{Cell}
 use Rattle.cell_model.specs.declared.cell_result.CellResult.{CellResult}
 use Rattle.cell_model.specs.declared.cell_result.CellStatus.{CellStatus}
 use Rattle.cell_model.specs.declared.cell_result.CellStatus.TheVariants as status
-use Rattle.cell_model.specs.declared.fault.CellError.{CellError}
 use Rattle.cell_model.specs.declared.run.Policy.{Policy}
 use Rattle.cell_model.specs.declared.run.Policy.TheVariants as policy
 

@@ -1,9 +1,9 @@
 //! Cells: what a version is made of.
 ghost use Rattle.std.specs.Prelude.{◌≡◌, IfOk};
 
-use dataset_types::{Picks, Table};
+use dataset_types::{Picks, Repair, Table, Types};
 use std::alloc::Global;
-use value_types::{ArcOf, ListOf, Name, NoMemory};
+use value_types::{ArcOf, Bytes, ListOf, Name, NoMemory};
 
 /// A cell of a notebook. One cell may stand in many versions.
 #[derive(Drop)]
@@ -18,13 +18,24 @@ pub struct Cell {
 #[derive(Drop)]
 pub enum CellKind {
     /// Holds a literal dataset and writes it under its name.
-    Make { name: Name, table: ArcOf<Table> },
+    Make {
+        name: Name,
+        table: ArcOf<Table>,
+    },
+    /// Reads a CSV file's bytes as a dataset and writes it under its name.
+    Load {
+        name: Name,
+        bytes: ArcOf<Bytes>,
+        types: Types,
+        repair: Repair,
+    },
 }
 
 /// The cells of a version, in order. They are shared.
 pub type Cells = ListOf<ArcOf<Cell>>;
 
 impl CellKind {
+    /// An equal kind, which shares the table or the bytes.
     pub fn copy(&self, alloc: Global) -> Result<CellKind, NoMemory>
         ensures { IfOk result (λ k. k ≡ self.now) }
     {
@@ -33,11 +44,23 @@ impl CellKind {
                 name: name.copy(),
                 table: table.copy(alloc)?,
             }),
+            CellKind::Load {
+                name,
+                bytes,
+                types,
+                repair,
+            } => Ok(CellKind::Load {
+                name: name.copy(),
+                bytes: bytes.copy(alloc)?,
+                types: types.copy(alloc)?,
+                repair: *repair,
+            }),
         }
     }
 }
 
 impl Cell {
+    /// An equal cell.
     pub fn copy(&self, alloc: Global) -> Result<Cell, NoMemory>
         ensures { IfOk result (λ c. c ≡ self.now) }
     {

@@ -1,10 +1,10 @@
 //! What a run of a cell gives: a status, output lines, and the slots that it writes.
-ghost use Rattle.std.specs.Prelude.{◌≡◌, ◌↔◌, IfOk, OnOk, OnErr, ◌++◌, ◌∷◌, [], Contains, IsTrue, is_some};
+ghost use Rattle.std.specs.Prelude.{◌≡◌, ◌↔◌, Ok, IfOk, OnOk, OnErr, ◌++◌, ◌∷◌, [], Contains, IsTrue, is_some};
 ghost use Rattle.dataset_types.specs.Slots.{find_slot};
 ghost use Rattle.cell_model.specs.Runs.{bare, is_ok};
 ghost use Rattle.dataset_types.specs.Envs.{names_of};
 
-use crate::fault::CellError;
+use cell_errors::CellError;
 use dataset_types::{Named, Slot, Slots};
 use std::alloc::Global;
 use std::marker::Model;
@@ -52,8 +52,9 @@ impl Model for Writes {
 }
 
 impl Writes {
+    /// No writes, which takes no memory.
     pub fn new(alloc: Global) -> Result<Writes, NoMemory>
-        ensures { IfOk result (λ w. w ≡ []) }
+        ensures { result ≡ Ok [] }
     {
         Ok(Writes {
             slots: Slots::new(alloc)?,
@@ -84,6 +85,7 @@ impl Writes {
         self.slots.push(alloc, Named { name, slot })
     }
 
+    /// Equal writes.
     pub fn copy(&self, alloc: Global) -> Result<Writes, NoMemory>
         ensures { IfOk result (λ w. w ≡ self.now) }
     {
@@ -107,6 +109,7 @@ pub struct CellResult {
 pub type Results = ListOf<ArcOf<CellResult>>;
 
 impl Line {
+    /// An equal line.
     pub fn copy(&self, alloc: Global) -> Result<Line, NoMemory>
         ensures { IfOk result (λ l. l ≡ self.now) }
     {
@@ -138,7 +141,7 @@ pub fn has_name(slots: &[Named], name: &Name) -> bool
 impl CellResult {
     /// A status alone: no lines, no writes and no blur.
     pub fn bare(alloc: Global, status: CellStatus) -> Result<CellResult, NoMemory>
-        ensures { IfOk result (λ r. r ≡ bare status) }
+        ensures { result ≡ Ok (bare status) }
     {
         Ok(CellResult {
             status,
@@ -148,6 +151,7 @@ impl CellResult {
         })
     }
 
+    /// An equal result.
     pub fn copy(&self, alloc: Global) -> Result<CellResult, NoMemory>
         ensures { IfOk result (λ r. r ≡ self.now) }
     {
@@ -161,6 +165,7 @@ impl CellResult {
 }
 
 impl CellStatus {
+    /// Whether the cell ended without an error.
     pub fn is_ok(self) -> bool
         ensures { result ≡ is_ok self }
     {

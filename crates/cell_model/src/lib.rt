@@ -8,10 +8,10 @@
 mod cell;
 mod cell_result;
 mod env_reads;
-mod fault;
 mod laws;
 mod reads;
 mod record;
+mod refusal;
 mod run;
 #[cfg(test)]
 mod tests;
@@ -21,10 +21,10 @@ mod work;
 pub use cell::{Cell, CellKind, Cells};
 pub use cell_result::{CellResult, CellStatus, Line, Lines, Results, Writes};
 pub use env_reads::EnvReads;
-pub use fault::{CellError, EditRefusal};
 pub use laws::{law_of_faults, law_of_policies, law_of_stop};
 pub use reads::{Ended, Reads};
 pub use record::{CellMeaning, Record};
+pub use refusal::EditRefusal;
 pub use run::{Policy, Ran, RunAll, Settled, run_all, run_on};
 pub use trail::{Step, Trail, front_of};
 pub use work::{CellWork, Estimate};

@@ -1,5 +1,5 @@
 //! The serial run of a version's cells.
-ghost use Rattle.std.specs.Prelude.{◌≡◌, ◌≤◌, ◌<◌, ◌^◌, ◌-◌, ◌++◌, ◌∷◌, [], length, IfOk, OnOk, OnErr};
+ghost use Rattle.std.specs.Prelude.{◌≡◌, ◌≤◌, ◌<◌, ◌^◌, ◌-◌, ◌++◌, ◌∷◌, [], length, Ok, IfOk, OnOk, OnErr};
 ghost use Rattle.dataset_types.specs.Envs.{look, after_writes, empty_env};
 ghost use Rattle.cell_model.specs.Runs.{goes_on, next_result, step, after_cell, run_of};
 ghost use Rattle.cell_model.specs.Trails.{next_of, Follows, cells_of};
@@ -62,7 +62,7 @@ pub enum Ran {
 impl Settled {
     // No cells, over the empty environment.
     fn none(alloc: Global) -> Result<Settled, NoMemory>
-        ensures { IfOk result (λ settled. settled ≡ record { cells = []; results = []; env = empty_env }) }
+        ensures { result ≡ Ok (record { cells = []; results = []; env = empty_env }) }
     {
         Ok(Settled {
             cells: Cells::new(alloc)?,
@@ -86,6 +86,7 @@ impl Settled {
         })
     }
 
+    /// Equal cells, results and environment; cells and results are shared.
     pub fn copy(&self, alloc: Global) -> Result<Settled, NoMemory>
         ensures { IfOk result (λ settled. settled ≡ self.now) }
     {
@@ -209,7 +210,7 @@ pub fn run_on<W: CellWork>(
     front: Trail,
     cells: &[ArcOf<Cell>],
 ) -> Ran
-    requires small { length cells.now < 2 ^ 32 - 1 }
+    requires small { length cells.now < 2 ^ 32 }
     requires follows { Follows W.meaning policy front cells.now }
     ensures { IsRun result policy (run_of W.meaning policy cells.now) }
 {
@@ -227,7 +228,7 @@ pub fn run_on<W: CellWork>(
 // A position that the whole run reaches.
 fn last_reached(policy: Policy, trail: &Trail) -> u32
     requires some { 0 < length trail.now }
-    requires small { length trail.now < 2 ^ 32 - 1 }
+    requires small { length trail.now < 2 ^ 32 }
     ensures { IsReached policy result trail.now }
 {
     let steps = trail.as_slice();
@@ -237,7 +238,7 @@ fn last_reached(policy: Policy, trail: &Trail) -> u32
 // A whole run as what it settles.
 fn settle(alloc: Global, policy: Policy, trail: &Trail) -> RunAll
     requires some { 0 < length trail.now }
-    requires small { length trail.now < 2 ^ 32 - 1 }
+    requires small { length trail.now < 2 ^ 32 }
     ensures { IsSettledRun result policy (cells_of trail.now) trail.now }
 {
     match Settled::from_trail(alloc, trail) {
@@ -248,7 +249,7 @@ fn settle(alloc: Global, policy: Policy, trail: &Trail) -> RunAll
     }
 }
 
-/// Runs the cells one after another, over the empty environment. The empty list is done at once.
+/// Runs the cells one after another, over the empty environment. The empty list is always done.
 ///
 /// - Starved: want of memory, at a position that isn't blocked.
 pub fn run_all<W: CellWork>(
@@ -257,7 +258,7 @@ pub fn run_all<W: CellWork>(
     policy: Policy,
     cells: &[ArcOf<Cell>],
 ) -> RunAll
-    requires { length cells.now < 2 ^ 32 - 1 }
+    requires { length cells.now < 2 ^ 32 }
     ensures { IsSettledRun result policy cells.now (run_of W.meaning policy cells.now) }
 {
     if cells.is_empty() {

@@ -3,6 +3,7 @@ ghost use Rattle.std.specs.Prelude.{◌≡◌, ◌∷◌, [], Some, IfOk};
 ghost use Rattle.cell_model.specs.Sample.{one_write, doubted};
 
 use super::*;
+use cell_errors::CellError;
 use dataset_types::{Columns, Env, Named, Picks, Rows, Slot, Slots, Table, slot_same};
 use std::alloc::Global;
 use std::process::Abort;
@@ -32,7 +33,10 @@ impl CellWork for Sample {
         cell: &ArcOf<Cell>,
         reads: &mut R,
     ) -> Result<Record<Self>, Ended> {
-        let CellKind::Make { name, table } = &cell.get().kind;
+        let CellKind::Make { name, table } = &cell.get().kind else {
+            let outcome = CellResult::bare(alloc, CellStatus::Ok)?;
+            return Ok(Record::new(cell.copy(alloc)?, Slots::new(alloc)?, outcome));
+        };
         match cell.get().id {
             2 => {
                 let outcome = CellResult::bare(alloc, CellStatus::Error(CellError::ZeroDivisor))?;
@@ -52,7 +56,12 @@ impl CellWork for Sample {
     }
 
     fn estimate(&self, alloc: Global, cell: &Cell) -> Result<Estimate, NoMemory> {
-        let CellKind::Make { name, .. } = &cell.kind;
+        let CellKind::Make { name, .. } = &cell.kind else {
+            return Ok(Estimate {
+                reads: Names::new(alloc)?,
+                writes: Names::new(alloc)?,
+            });
+        };
         Ok(Estimate {
             reads: one_name(alloc, name)?,
             writes: one_name(alloc, name)?,

@@ -97,7 +97,7 @@ impl<W: CellWork> Kept<W> {
         count: usize,
         cells: &[ArcOf<Cell>],
     ) -> Result<Ran, NoMemory>
-        requires small { length cells.now < 2 ^ 32 - 1 }
+        requires small { length cells.now < 2 ^ 32 }
         requires base { base ≤ length self.old.versions }
         requires most { count ≤ length (cells_at self.old.versions base) }
         requires count { count ≤ length cells.now }

@@ -1,10 +1,12 @@
-use Rattle.std.proofs.Common.{◌≡◌, ◌<◌, ◌∙◌, List, length, ap, arith}
+use Rattle.std.proofs.Common.{◌≡◌, ◌∙◌, List, length, ap, arith}
 use Rattle.cell_model.specs.Runs.{StepData}
 use Rattle.cell_model.proofs.RunLemmas.{length-run_of, reached_first, settled_run, some_cells}
 use Rattle.cell_model.proofs.run.run_all.Goals as goal
 
 pub returns-in_default : goal.returns-in_default
-returns-in_default g c = λ some. reached_first g.W.CellMeaning.meaning c.args.policy c.args.cells.now some
+returns-in_default g c =
+    let cells = c.args.cells.now in
+    reached_first g.W.CellMeaning.meaning c.args.policy cells (some_cells cells c.is_empty.result c.is_empty.ensures c.if-is_empty.false)
 
 pub settle-requires-clause-some : goal.settle-requires-clause-some
 settle-requires-clause-some g c =

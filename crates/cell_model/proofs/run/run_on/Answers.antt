@@ -1,4 +1,4 @@
-use Rattle.std.proofs.Common.{◌≡◌, ◌<◌, ◌∙◌, List, sym, ap, subst, length, get_or, arith}
+use Rattle.std.proofs.Common.{◌∙◌, List, ap, subst, length, get_or, arith}
 use Rattle.cell_model.specs.Runs.{Reaches, StepData}
 use Rattle.cell_model.proofs.RunLemmas.{Follows-more, reached_in}
 use Rattle.cell_model.proofs.run.run_on.Goals as goal

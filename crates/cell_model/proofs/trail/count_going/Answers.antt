@@ -1,4 +1,4 @@
-use Rattle.std.proofs.Common.{◌≡◌, ◌∙◌, ◌+◌, sym, ap}
+use Rattle.std.proofs.Common.{◌∙◌, ◌+◌, sym, ap}
 use Rattle.cell_model.specs.Runs.{StepData, goes_on}
 use Rattle.cell_model.proofs.RunLemmas.{reached_at}
 use Rattle.cell_model.proofs.trail.count_going.Goals as goal

@@ -1,4 +1,4 @@
-use Rattle.std.proofs.Common.{◌≡◌, ◌≤◌, length}
+use Rattle.std.proofs.Common.{◌≡◌}
 use Rattle.cell_model.specs.Runs.{Reaches}
 use Rattle.cell_model.proofs.trail.count_going.Given as goal
 

@@ -1,4 +1,4 @@
-use Rattle.std.proofs.Common.{◌≡◌, ◌∙◌, sym, ap}
+use Rattle.std.proofs.Common.{◌∙◌, sym, ap}
 use Rattle.cell_model.specs.Runs.{StepData, goes_on}
 use Rattle.cell_model.proofs.RunLemmas.{env_at, going_at}
 use Rattle.cell_model.proofs.trail.last_of.Goals as goal

@@ -1,4 +1,4 @@
-use Rattle.std.proofs.Common.{◌≡◌, ap, sym, ◌∙◌, subst}
+use Rattle.std.proofs.Common.{ap, sym, subst}
 use Rattle.dataset_types.specs.Envs.{look}
 use Rattle.cell_model.specs.Reading.{IsAsked, Answers, noted}
 use Rattle.cell_model.proofs.Asked.{noted_asked, noted_answers}
