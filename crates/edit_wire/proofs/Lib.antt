@@ -1,2 +1,11 @@
 pub mod Options
 pub mod Made
+pub mod PicksLemmas
+pub mod FixedTexts
+pub mod Each
+pub mod TableBack
+pub mod Back
+pub mod EditBack
+pub mod OneLine
+pub mod PlainLines
+pub mod Examples

@@ -1,11 +1,10 @@
 -- The parts of a make cell's table keep the rules of a table.
-use Rattle.std.proofs.Common.{◌≡◌, ℕ, suc, ◌+◌, ◌<◌, ◌&&◌, not, List, [], ◌∷◌, ◌++◌, length, Bool, true, false, refl, ap, sym, subst, ◌∙◌, eq-eqb, append_assoc, append-nil, arith, Option, Some, None}
+use Rattle.std.proofs.Common.{◌≡◌, ℕ, suc, ◌+◌, ◌<◌, ◌&&◌, List, [], ◌∷◌, ◌++◌, length, Bool, true, false, refl, ap, sym, subst, ◌∙◌, eq-eqb, append_assoc, append-nil, arith, Option, Some, None}
 use Rattle.std.specs.Prelude.{if◌then◌else◌, option_and_then}
-use Rattle.std.specs.List.{list_all, list_any, zip}
-use Rattle.std.specs.Str.{bytes_eq}
-use Rattle.std.specs.Cmp.Lexicographic.{nat_list_eq_equiv}
-use Rattle.std.proofs.lemmas.Map.Views.{list_any-from_Contains}
+use Rattle.std.specs.List.{list_all}
 use Rattle.std.proofs.lemmas.Bool.{lt-leb}
+use Rattle.std.proofs.lemmas.Bool.Decides.{same_from_decides}
+use Rattle.std.specs.Prelude.{◌↔◌, IsTrue}
 use Rattle.serde_json.specs.Data.{Data, Items, no_items, item}
 use Rattle.serde_json.specs.Find.{as_array}
 use Rattle.serde_json.specs.View.{items_view}
@@ -16,12 +15,16 @@ use Rattle.value_types.specs.declared.value.ColumnType.TheVariants as kind
 use Rattle.value_types.specs.declared.value.Value.{Value}
 use Rattle.value_types.specs.declared.value.Value.TheVariants as value
 use Rattle.value_types.specs.declared.row_id.RowId.{Rec}
-use Rattle.dataset_types.specs.Tables.{Distinct, fits, row_fits, rows_fit, all_sure, column_names, row_ids, numbered, table_of, within_limits}
+use Rattle.dataset_types.specs.Fitting.{fitted}
+use Rattle.dataset_types.specs.Tables.{Distinct, fits, values_fit, row_fits, rows_fit, all_sure, column_names, row_ids, names_apart, numbered, table_of, within_limits}
+use Rattle.dataset_types.proofs.RuleLemmas.{names_decide}
 use Rattle.dataset_types.proofs.TableLemmas.{distinct_numbered}
 use Rattle.dataset_types.specs.declared.column.Column.{Column}
 use Rattle.dataset_types.specs.declared.row.Marked.{Marked}
 use Rattle.dataset_types.specs.declared.row.Row.{Row}
-use Rattle.edit_wire.specs.Cells.{fitted, value_of, certain, values_of, row_of, rows_from, has_name, distinct_names, heading_of, limited, table_from}
+use Rattle.edit_wire.specs.Plain.{unmarked}
+use Rattle.edit_wire.specs.Values.{value_of}
+use Rattle.edit_wire.specs.Make.{certain, values_of, row_of, rows_from, heading_of, limited, table_from}
 use Rattle.edit_wire.proofs.Options.{mapped, chained, first_and_rest}
 
 -- ---- values
@@ -40,16 +43,15 @@ fitted_fits : (k : ColumnType) (v w : Value) → fitted k v ≡ Some w → fits 
 fitted_fits kind.Fixed (value.Int n) w e = ap (λ x. fits x kind.Fixed) (mapped value.Fixed (widened n) w e).2
 fitted_fits k v w e = as_it_is k v w e
 
--- one value a column, each of its column's type
+-- one value a column, each of its column's type, and none marked
 abbrev pub AreValues : List Column → List Marked → Type 0
-AreValues columns values =
-    (length values ≡ length columns) × (list_all (λ p. fits p.1.value p.0.kind) (zip columns values) ≡ true)
+AreValues columns values = (length values ≡ length columns) × (values_fit columns values ≡ true) × (unmarked values ≡ true)
 
 one_more : (c : Column) (cs : List Column) (v : Value) (vs : List Marked) → fits v c.kind ≡ true → AreValues cs vs → AreValues (c ∷ cs) (certain v ∷ vs)
-one_more c cs v vs fitting others = (ap suc others.0, rw fitting others.1)
+one_more c cs v vs fitting others = (ap suc others.0, rw fitting others.1, others.2)
 
 are_values : (cs : List Column) (ds : Items) (vs : List Marked) → values_of cs ds ≡ Some vs → AreValues cs vs
-are_values [] no_items [] e = (refl, refl)
+are_values [] no_items [] e = (refl, refl, refl)
 are_values [] no_items (v ∷ vs) e = absurd (cc)
 are_values [] (item d ds) vs e = absurd (cc)
 are_values (c ∷ cs) no_items vs e = absurd (cc)
@@ -67,6 +69,7 @@ pub record IsRow (columns : List Column) (n : ℕ) (row : Row) : Type 0 where
   pub id : row.id ≡ Rec n
   pub sure : row.sure ≡ true
   pub fitting : row_fits columns row ≡ true
+  pub certain : unmarked row.values ≡ true
 
 fitting_values : (cs : List Column) (row : Row) → AreValues cs row.values → row_fits cs row ≡ true
 fitting_values cs row values = rw (eq-eqb (length row.values) (length cs) values.0) values.1
@@ -80,6 +83,7 @@ row_is cs n d row e =
       id = ap (λ (r : Row). r.id) made.2;
       sure = ap (λ (r : Row). r.sure) made.2;
       fitting = fitting_values cs row values;
+      certain = values.2;
     }
 
 -- how many items there are
@@ -87,16 +91,18 @@ abbrev pub count : Items → ℕ
 count no_items = 0
 count (item d ds) = suc (count ds)
 
--- rows that fit the columns, sure and numbered from after n on
+-- rows that fit the columns, sure, unmarked and numbered from after n on
 pub record AreRows (columns : List Column) (n : ℕ) (rows : List Row) : Type 0 where
   pub fitting : rows_fit columns rows ≡ true
   pub sure : all_sure rows ≡ true
+  pub certain : list_all (λ r. unmarked r.values) rows ≡ true
   pub ids : numbered n ++ row_ids rows ≡ numbered (n + length rows)
 
 row_more : (cs : List Column) (n : ℕ) (row : Row) (rows : List Row) → IsRow cs (suc n) row → AreRows cs (suc n) rows → AreRows cs n (row ∷ rows)
 row_more cs n row rows first others = record {
   fitting = rw first.fitting others.fitting;
   sure = rw first.sure others.sure;
+  certain = rw first.certain others.certain;
   ids =
       let same : suc n + length rows ≡ n + suc (length rows) = omega arith in
       ap (λ i. numbered n ++ i ∷ row_ids rows) first.id
@@ -107,7 +113,7 @@ no_more : (n : ℕ) → numbered n ++ [] ≡ numbered (n + 0)
 no_more n = let same : n ≡ n + 0 = omega arith in append-nil (numbered n) ∙ ap numbered same
 
 pub are_rows : (cs : List Column) (n : ℕ) (ds : Items) (rows : List Row) → rows_from cs (suc n) ds ≡ Some rows → AreRows cs n rows × (length rows ≡ count ds)
-are_rows cs n no_items [] e = (record { fitting = refl; sure = refl; ids = no_more n }, refl)
+are_rows cs n no_items [] e = (record { fitting = refl; sure = refl; certain = refl; ids = no_more n }, refl)
 are_rows cs n no_items (row ∷ rows) e = absurd (cc)
 are_rows cs n (item d ds) rows e =
     let split = first_and_rest (λ (r : Row). r) (row_of cs (suc n) d) (rows_from cs (suc (suc n)) ds) rows e in
@@ -155,19 +161,10 @@ counted (v ∷ vs) = ap suc (counted vs)
 
 -- ---- columns
 
-both : (a b : Bool) → (not a && b) ≡ true → (a ≡ false) × (b ≡ true)
-both true b e = absurd (cc)
-both false b e = (refl, e)
-
-same_test : (name : List ℕ) (cs : List Column) → list_any (bytes_eq name) (column_names cs) ≡ has_name name cs
-same_test name [] = refl
-same_test name (c ∷ cs) = rw (same_test name cs)
+-- a test that passes exactly the distinct names is the one two by two
+pub apart : (passed : Bool) (cs : List Column) → IsTrue passed ↔ Distinct (column_names cs) → passed ≡ names_apart cs
+apart passed cs passes = same_from_decides passed (names_apart cs) passes (names_decide cs)
 
 -- the names of a heading are distinct
-pub distinct : (cs : List Column) → distinct_names cs ≡ true → Distinct (column_names cs)
-distinct [] e = tt
-distinct (c ∷ cs) e =
-    let parts = both (has_name c.name cs) (distinct_names cs) e in (
-      λ held. let there : has_name c.name cs ≡ true = sym (same_test c.name cs) ∙ list_any-from_Contains nat_list_eq_equiv c.name (column_names cs) held in absurd (cc),
-      distinct cs parts.1,
-    )
+pub distinct : (cs : List Column) → names_apart cs ≡ true → Distinct (column_names cs)
+distinct cs e = (names_decide cs).0 e

@@ -1,6 +1,6 @@
 -- What a call answers that may refuse an edit.
 use Rattle.std.specs.Prelude.{◌≡◌, Result, Ok, Err}
-use Rattle.cell_model.specs.declared.fault.EditRefusal.{EditRefusal}
+use Rattle.cell_model.specs.declared.refusal.EditRefusal.{EditRefusal}
 use Rattle.edit_wire.specs.declared.edit.EditFault.{EditFault}
 use Rattle.edit_wire.specs.declared.edit.EditFault.TheVariants as fault
 

@@ -4,44 +4,45 @@ use Rattle.std.specs.Str.{bytes_eq, is_utf8}
 use Rattle.serde_json.specs.Data.{Data}
 use Rattle.serde_json.specs.Find.{as_number, as_str, as_u64}
 use Rattle.serde_json.specs.Read.{read}
-use Rattle.cell_model.specs.declared.fault.EditRefusal.{EditRefusal}
-use Rattle.cell_model.specs.declared.fault.EditRefusal.TheVariants as refusal
+use Rattle.cell_model.specs.declared.refusal.EditRefusal.{EditRefusal}
+use Rattle.cell_model.specs.declared.refusal.EditRefusal.TheVariants as refusal
 use Rattle.edit_wire.specs.declared.edit.Edit.{Edit}
 use Rattle.edit_wire.specs.declared.edit.EditCell.{EditCell}
 use Rattle.edit_wire.specs.declared.edit.EditKind.{EditKind}
 use Rattle.edit_wire.specs.declared.edit.EditKind.TheVariants as edit
 use Rattle.edit_wire.specs.Json.{with_members, field}
-use Rattle.edit_wire.specs.Cells.{name_in, cell_of}
+use Rattle.edit_wire.specs.Cells.{cell_of}
+use Rattle.edit_wire.specs.Values.{name_in}
 
 -- a number of u32
 abbrev pub in_u32 : ℕ → Option ℕ
 in_u32 n = if nat_lt n (2 ^ 32) then Some n else None
 
 -- a whole number from 0 to 4,294,967,295
-abbrev pub place_in : Data → Option ℕ
-place_in d = option_and_then in_u32 (option_and_then as_u64 (as_number d))
+abbrev pub position_in : Data → Option ℕ
+position_in d = option_and_then in_u32 (option_and_then as_u64 (as_number d))
 
 -- the fields that an edit has, beside `edit` and `branch`, where it has no others
 
 abbrev pub append_of : Data → Option EditKind
 append_of d = with_members 3 d (option_map edit.Append (field cell_of (codes "cell") d))
 
-abbrev pub place_and_cell : Data → Option (ℕ × EditCell)
-place_and_cell d =
+abbrev pub position_and_cell : Data → Option (ℕ × EditCell)
+position_and_cell d =
     with_members 4 d
-    (option_and_then (λ at. option_map (λ cell. (at, cell)) (field cell_of (codes "cell") d)) (field place_in (codes "at") d))
+    (option_and_then (λ at. option_map (λ cell. (at, cell)) (field cell_of (codes "cell") d)) (field position_in (codes "at") d))
 
 abbrev pub insert_of : Data → Option EditKind
-insert_of d = option_map (λ p. edit.Insert p.0 p.1) (place_and_cell d)
+insert_of d = option_map (λ p. edit.Insert p.0 p.1) (position_and_cell d)
 
 abbrev pub update_of : Data → Option EditKind
-update_of d = option_map (λ p. edit.Update p.0 p.1) (place_and_cell d)
+update_of d = option_map (λ p. edit.Update p.0 p.1) (position_and_cell d)
 
 abbrev pub delete_of : Data → Option EditKind
-delete_of d = with_members 3 d (option_map edit.Delete (field place_in (codes "at") d))
+delete_of d = with_members 3 d (option_map edit.Delete (field position_in (codes "at") d))
 
 abbrev pub branch_of : Data → Option EditKind
-branch_of d = with_members 3 d (option_map edit.Branch (field place_in (codes "from") d))
+branch_of d = with_members 3 d (option_map edit.Branch (field position_in (codes "from") d))
 
 -- what the word of the field `edit` asks for
 abbrev pub kind_named : List ℕ → Data → Option EditKind
@@ -56,11 +57,13 @@ kind_named word d =
 abbrev pub kind_of : Data → Option EditKind
 kind_of d = option_and_then (λ word. kind_named word d) (field as_str (codes "edit") d)
 
+-- the edit that does this on the branch
+abbrev pub edit_on : List ℕ → EditKind → Edit
+edit_on branch kind = record { branch = branch; kind = kind }
+
 -- the edit that a JSON value is
 unfoldable pub edit_in : Data → Option Edit
-edit_in d =
-    option_and_then (λ branch. option_map (λ kind. record { branch = branch; kind = kind }) (kind_of d))
-    (field name_in (codes "branch") d)
+edit_in d = option_and_then (λ branch. option_map (edit_on branch) (kind_of d)) (field name_in (codes "branch") d)
 
 -- the value that a line is, where it is JSON in UTF-8
 unfoldable pub json_of : List ℕ → Option Data

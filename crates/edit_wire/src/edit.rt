@@ -3,12 +3,20 @@ ghost use Rattle.std.specs.Prelude.{◌≡◌};
 ghost use Rattle.edit_wire.specs.declared.edit.EditFault.TheVariants.{NoMemory as Starves};
 
 use cell_model::{CellKind, EditRefusal};
+use dataset_types::{Repair, Types};
 use thiserror::Error;
-use value_types::{Name, NoMemory};
+use value_types::{Name, NoMemory, Words};
 
 /// The cell that an edit brings.
 #[derive(Drop)]
 pub enum EditCell {
+    /// One that is made from a file of the shelf.
+    Load {
+        name: Name,
+        file: Words,
+        types: Types,
+        repair: Repair,
+    },
     /// One that needs no file.
     Other(CellKind),
 }

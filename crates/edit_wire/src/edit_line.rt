@@ -4,10 +4,12 @@ ghost use Rattle.serde_json.specs.View.{view};
 ghost use Rattle.edit_wire.specs.Answers.{Gives};
 ghost use Rattle.edit_wire.specs.Cells as cells;
 ghost use Rattle.edit_wire.specs.Json as fields;
+ghost use Rattle.edit_wire.specs.Plain.{IsPlainEdit};
 ghost use Rattle.edit_wire.specs.Wire as spec;
 
 use crate::edit::{Edit, EditCell, EditFault, EditKind};
-use crate::json::{FromJson, field, has_members, text_field};
+use crate::from_json::{FromJson, field, has_members, text_field};
+use crate::load::load_of;
 use crate::make::make_of;
 use cell_model::EditRefusal;
 use serde_json::Value as Json;
@@ -18,12 +20,15 @@ impl FromJson for EditCell {
     ghost meaning = { cells.cell_of };
 
     fn from_json(alloc: Global, json: &Json) -> Result<Option<EditCell>, NoMemory> {
-        Ok(make_of(alloc, json)?.map(EditCell::Other))
+        match make_of(alloc, json)? {
+            Some(kind) => Ok(Some(EditCell::Other(kind))),
+            None => load_of(alloc, json),
+        }
     }
 }
 
-fn place_of(json: &Json) -> Option<u32>
-    ensures { result ≡ spec.place_in (view json.now) }
+fn position_of(json: &Json) -> Option<u32>
+    ensures { result ≡ spec.position_in (view json.now) }
 {
     match json.as_u64() {
         Some(n) => u32::try_from(n).ok(),
@@ -31,24 +36,24 @@ fn place_of(json: &Json) -> Option<u32>
     }
 }
 
-/// The place that a field is.
-fn place_field(json: &Json, name: &str) -> Option<u32>
-    ensures { result ≡ fields.field spec.place_in name.now (view json.now) }
+/// The position that a field is.
+pub fn position_field(json: &Json, name: &str) -> Option<u32>
+    ensures { result ≡ fields.field spec.position_in name.now (view json.now) }
 {
     match json.get(name) {
-        Some(value) => place_of(value),
+        Some(value) => position_of(value),
         None => None,
     }
 }
 
-/// The place and the cell of an edit that has both.
-fn place_and_cell(alloc: Global, json: &Json) -> Result<Option<(u32, EditCell)>, NoMemory>
-    ensures { IfOk result (λ found. found ≡ spec.place_and_cell (view json.now)) }
+/// The position and the cell of an edit that has both.
+fn position_and_cell(alloc: Global, json: &Json) -> Result<Option<(u32, EditCell)>, NoMemory>
+    ensures { IfOk result (λ found. found ≡ spec.position_and_cell (view json.now)) }
 {
     if !has_members(json, 4) {
         return Ok(None);
     }
-    let Some(at) = place_field(json, "at") else {
+    let Some(at) = position_field(json, "at") else {
         return Ok(None);
     };
     match field(alloc, json, "cell")? {
@@ -72,7 +77,7 @@ fn append_of(alloc: Global, json: &Json) -> Result<Option<EditKind>, NoMemory>
 fn insert_of(alloc: Global, json: &Json) -> Result<Option<EditKind>, NoMemory>
     ensures { IfOk result (λ found. found ≡ spec.insert_of (view json.now)) }
 {
-    match place_and_cell(alloc, json)? {
+    match position_and_cell(alloc, json)? {
         Some((at, cell)) => Ok(Some(EditKind::Insert { at, cell })),
         None => Ok(None),
     }
@@ -81,7 +86,7 @@ fn insert_of(alloc: Global, json: &Json) -> Result<Option<EditKind>, NoMemory>
 fn update_of(alloc: Global, json: &Json) -> Result<Option<EditKind>, NoMemory>
     ensures { IfOk result (λ found. found ≡ spec.update_of (view json.now)) }
 {
-    match place_and_cell(alloc, json)? {
+    match position_and_cell(alloc, json)? {
         Some((at, cell)) => Ok(Some(EditKind::Update { at, cell })),
         None => Ok(None),
     }
@@ -93,7 +98,7 @@ fn delete_of(json: &Json) -> Option<EditKind>
     if !has_members(json, 3) {
         return None;
     }
-    match place_field(json, "at") {
+    match position_field(json, "at") {
         Some(at) => Some(EditKind::Delete { at }),
         None => None,
     }
@@ -105,7 +110,7 @@ fn branch_of(json: &Json) -> Option<EditKind>
     if !has_members(json, 3) {
         return None;
     }
-    match place_field(json, "from") {
+    match position_field(json, "from") {
         Some(from) => Some(EditKind::Branch { from }),
         None => None,
     }
@@ -141,7 +146,7 @@ fn edit_in(alloc: Global, json: &Json) -> Result<Option<Edit>, NoMemory>
 }
 
 /// The value that a line is, where it is JSON.
-fn json_of(alloc: Global, line: &[u8]) -> Result<Option<Json>, NoMemory>
+pub fn json_of(alloc: Global, line: &[u8]) -> Result<Option<Json>, NoMemory>
     ensures { IfOk result (λ found. option_map view found ≡ spec.json_of line.now) }
 {
     match Json::from_slice(alloc, line) {
@@ -156,13 +161,15 @@ fn json_of(alloc: Global, line: &[u8]) -> Result<Option<Json>, NoMemory>
     }
 }
 
-/// The edit that a line is.
+/// The edit that a line is. Each such edit has a line that `line_of` writes.
 ///
 /// - Shape: the line's bytes without its line feed.
 /// - Error: `BadJson` exactly where it is no JSON value, `BadEdit` exactly where the value is no edit.
 /// - Source: docs/FORMATS.md, "Edit lines".
+#[tactic(auto, using(crate::proofs::PlainLines::edit_plain))]
 pub fn edit_of(alloc: Global, line: &[u8]) -> Result<Edit, EditFault>
-    ensures { Gives result (spec.edit_of line.now) }
+    ensures value { Gives result (spec.edit_of line.now) }
+    ensures plain { IfOk result IsPlainEdit }
 {
     let Some(json) = json_of(alloc, line)? else {
         return Err(EditFault::Refused(EditRefusal::BadJson));

@@ -5,12 +5,27 @@
 #![tactic(auto)]
 
 mod edit;
+mod edit_json;
 mod edit_line;
-mod json;
+mod from_json;
+mod load;
+mod load_json;
 mod make;
+mod make_json;
+mod picks;
 #[cfg(test)]
 mod tests;
+#[cfg(test)]
+mod tests_loads;
+#[cfg(test)]
+mod tests_picks;
+#[cfg(test)]
+mod tests_text;
+mod to_json;
 mod value;
+mod value_json;
 
 pub use edit::{Edit, EditCell, EditFault, EditKind};
+pub use edit_json::line_of;
 pub use edit_line::edit_of;
+pub use picks::{PicksFault, picks_of};

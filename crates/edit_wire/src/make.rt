@@ -1,26 +1,38 @@
 //! Make cells: a heading of columns, rows that fit it, and the table of both.
 ghost use Rattle.std.specs.Prelude.{◌≡◌, ◌≤◌, IfOk, IfSome, IsTrue, length};
-ghost use Rattle.dataset_types.specs.Tables.{Distinct, column_names, row_ids, rows_fit, all_sure};
+ghost use Rattle.dataset_types.specs.Tables.{Distinct, column_names, names_apart, row_ids, rows_fit, all_sure};
 ghost use Rattle.serde_json.specs.View.{view, items_view};
-ghost use Rattle.edit_wire.specs.Cells as spec;
+ghost use Rattle.edit_wire.specs.Make as spec;
 
-use crate::json::{FromJson, all_of, field, has_members, list_field};
+use crate::from_json::{FromJson, all_of, field, has_members, list_field};
 use crate::value::value_for;
 use cell_model::CellKind;
-use dataset_types::{Column, Columns, Marked, MarkedValues, Row, Rows, Table, TableFault};
+use dataset_types::{
+    Column, Columns, Marked, MarkedValues, Row, Rows, Table, TableFault, names_distinct,
+};
 use serde_json::Value as Json;
 use std::alloc::Global;
 use value_types::{ArcOf, ColumnType, ListOf, Name, NoMemory, RowId};
 
-fn type_in(json: &Json) -> Option<ColumnType>
-    ensures { result ≡ spec.type_in (view json.now) }
+/// The type of a name.
+pub fn type_named(word: &str) -> Option<ColumnType>
+    ensures { result ≡ spec.type_named word.now }
 {
-    match json.as_str()? {
+    match word {
         "bool" => Some(ColumnType::Bool),
         "int" => Some(ColumnType::Int),
         "fixed" => Some(ColumnType::Fixed),
         "text" => Some(ColumnType::Text),
         _ => None,
+    }
+}
+
+fn type_in(json: &Json) -> Option<ColumnType>
+    ensures { result ≡ spec.type_in (view json.now) }
+{
+    match json.as_str() {
+        Some(word) => type_named(word),
+        None => None,
     }
 }
 
@@ -56,25 +68,16 @@ impl FromJson for Column {
     }
 }
 
-fn has_name(name: &Name, columns: &[Column]) -> bool
-    ensures { result ≡ spec.has_name name.now columns.now }
+fn names_apart(columns: &[Column]) -> bool
+    ensures { result ≡ names_apart columns.now }
 {
-    columns.iter().any(|column| name.same(&column.name))
-}
-
-fn distinct_names(columns: &[Column]) -> bool
-    ensures { result ≡ spec.distinct_names columns.now }
-{
-    match columns {
-        [] => true,
-        [column, columns @ ..] => !has_name(&column.name, columns) && distinct_names(columns),
-    }
+    names_distinct(columns)
 }
 
 fn is_heading(columns: &[Column]) -> bool
     ensures { result ≡ spec.is_heading columns.now }
 {
-    1 <= columns.len() && columns.len() <= 32 && distinct_names(columns)
+    1 <= columns.len() && columns.len() <= 32 && names_apart(columns)
 }
 
 /// The columns of a list, where they are 1 to 32 of distinct names.
@@ -208,7 +211,7 @@ fn table_in(alloc: Global, json: &Json) -> Result<Option<Table>, NoMemory>
 /// The make cell that an object is.
 ///
 /// - Source: docs/FORMATS.md, "Edit lines".
-#[tactic(auto, unfolding(crate::specs::Cells::make_of))]
+#[tactic(auto, unfolding(crate::specs::Make::make_of))]
 pub fn make_of(alloc: Global, json: &Json) -> Result<Option<CellKind>, NoMemory>
     ensures { IfOk result (λ found. found ≡ spec.make_of (view json.now)) }
 {

@@ -1,117 +1,9 @@
-use crate::{Edit, EditCell, EditFault, EditKind, edit_of};
-use cell_model::CellKind;
-use dataset_types::{Row, Table};
+//! Lines with the edits that they are, the refusals of others, and edits that are written.
+use crate::edit_of;
+use crate::tests_text::{check, push, repeated, said_again};
 use std::alloc::Global;
-use std::process::Abort;
 use std::test::Fail;
-use value_types::{ColumnType, NoMemory, RowId, Words, literal_text};
-
-/// A text of an edit that is only for tests: its word, its branch and its numbers, then its cell.
-fn push_edit(alloc: Global, out: &mut Words, edit: &Edit) -> Result<(), NoMemory> {
-    let branch = edit.branch.as_text();
-    match &edit.kind {
-        EditKind::Append { cell } => {
-            push(alloc, out, &["append ", branch])?;
-            push_cell(alloc, out, cell)
-        }
-        EditKind::Insert { at, cell } => {
-            push(alloc, out, &["insert ", branch])?;
-            push_number(alloc, out, *at)?;
-            push_cell(alloc, out, cell)
-        }
-        EditKind::Update { at, cell } => {
-            push(alloc, out, &["update ", branch])?;
-            push_number(alloc, out, *at)?;
-            push_cell(alloc, out, cell)
-        }
-        EditKind::Delete { at } => {
-            push(alloc, out, &["delete ", branch])?;
-            push_number(alloc, out, *at)
-        }
-        EditKind::Branch { from } => {
-            push(alloc, out, &["branch ", branch])?;
-            push_number(alloc, out, *from)
-        }
-    }
-}
-
-fn push(alloc: Global, out: &mut Words, texts: &[&str]) -> Result<(), NoMemory> {
-    for text in texts {
-        out.push_text(alloc, text)?;
-    }
-    Ok(())
-}
-
-fn push_number(alloc: Global, out: &mut Words, n: u32) -> Result<(), NoMemory> {
-    let text = format!(in alloc; " {n}")?;
-    out.push_text(alloc, text.as_str())
-}
-
-fn push_cell(alloc: Global, out: &mut Words, cell: &EditCell) -> Result<(), NoMemory> {
-    let EditCell::Other(CellKind::Make { name, table }) = cell;
-    push(alloc, out, &[" make ", name.as_text()])?;
-    push_table(alloc, out, table.get())
-}
-
-fn push_table(alloc: Global, out: &mut Words, table: &Table) -> Result<(), NoMemory> {
-    for column in table.columns().as_slice() {
-        let kind = match column.kind {
-            ColumnType::Bool => " bool",
-            ColumnType::Int => " int",
-            ColumnType::Fixed => " fixed",
-            ColumnType::Text => " text",
-        };
-        push(alloc, out, &[" ", column.name.as_text(), kind])?;
-    }
-    for row in table.rows().as_slice() {
-        push_row(alloc, out, row)?;
-    }
-    if table.is_open() || table.is_loose() {
-        out.push_text(alloc, " caveat")?;
-    }
-    Ok(())
-}
-
-fn push_row(alloc: Global, out: &mut Words, row: &Row) -> Result<(), NoMemory> {
-    match (&row.id, row.sure) {
-        (RowId::Rec(n), true) => {
-            let text = format!(in alloc; "; #{n}")?;
-            out.push_text(alloc, text.as_str())?;
-        }
-        _ => out.push_text(alloc, "; another id or unsure")?,
-    }
-    for marked in row.values.as_slice() {
-        out.push_text(alloc, if marked.marked { " ~" } else { " " })?;
-        literal_text(alloc, &marked.value, out)?;
-    }
-    Ok(())
-}
-
-/// The edit's text, or the refusal's name.
-fn said(alloc: Global, line: &[u8]) -> Result<Words, NoMemory> {
-    let mut out = Words::new(alloc)?;
-    match edit_of(alloc, line) {
-        Ok(edit) => push_edit(alloc, &mut out, &edit)?,
-        Err(EditFault::Refused(refusal)) => {
-            let text = format!(in alloc; "{refusal:?}")?;
-            out.push_text(alloc, text.as_str())?;
-        }
-        Err(EditFault::NoMemory) => return Err(NoMemory),
-    }
-    Ok(out)
-}
-
-fn check<R: Abort>(rt: &R, alloc: Global, line: &[u8], text: &str) -> Result<(), Fail> {
-    let said = said(alloc, line)?;
-    let line = String::from_utf8_lossy(alloc, line)?;
-    assert!(rt;
-        said.as_text() == text,
-        "{} gives {}",
-        line.as_str(),
-        said.as_text()
-    );
-    Ok(())
-}
+use value_types::{NoMemory, Words};
 
 #[test]
 fn edits_are_read(rt: HostRuntime) -> Result<(), Fail> {
@@ -177,6 +69,46 @@ fn lines_without_an_edit_are_refused(rt: HostRuntime) -> Result<(), Fail> {
         "{\"edit\":\"append\",\"branch\":\"main\",\"cell\":\"t\"}",
     ] {
         check(&rt, rt.alloc(), line.as_bytes(), "BadEdit")?;
+    }
+    Ok(())
+}
+
+#[test]
+fn each_kind_of_edit_is_written_and_read_back_equal(rt: HostRuntime) -> Result<(), Fail> {
+    let alloc = rt.alloc();
+    for (line, text) in [
+        (
+            "{\"edit\":\"append\",\"branch\":\"main\",\"cell\":{\"make\":\"t\",\
+             \"columns\":[[\"a\",\"bool\"],[\"b\",\"int\"],[\"c\",\"fixed\"],[\"d\",\"text\"]],\
+             \"rows\":[[true,-7,{\"fixed\":\"2.5\"},\"x\\n\\\"\"],[null,null,3,\"\"]]}}",
+            "append main make t a bool b int c fixed d text; \
+             #1 true -7 2.5000 \"x\\n\\\"\"; #2 null null 3.0000 \"\"",
+        ),
+        (
+            "{\"edit\":\"insert\",\"branch\":\"b_2\",\"at\":0,\
+             \"cell\":{\"make\":\"t\",\"columns\":[[\"a\",\"bool\"]],\"rows\":[]}}",
+            "insert b_2 0 make t a bool",
+        ),
+        (
+            "{\"edit\":\"update\",\"branch\":\"main\",\"at\":4294967295,\"cell\":{\"make\":\"t\",\
+             \"columns\":[[\"a\",\"fixed\"]],\"rows\":[[{\"fixed\":\"-922337203685477.5808\"}]]}}",
+            "update main 4294967295 make t a fixed; #1 -922337203685477.5808",
+        ),
+        (
+            "{\"edit\":\"delete\",\"branch\":\"main\",\"at\":7}",
+            "delete main 7",
+        ),
+        (
+            "{\"edit\":\"branch\",\"branch\":\"b\",\"from\":1}",
+            "branch b 1",
+        ),
+    ] {
+        let again = said_again(alloc, line.as_bytes())?;
+        assert!(rt;
+            again.as_text() == text,
+            "{line} was written as {}",
+            again.as_text()
+        );
     }
     Ok(())
 }
@@ -247,15 +179,6 @@ fn values_fit_their_columns(rt: HostRuntime) -> Result<(), Fail> {
         check(&rt, rt.alloc(), line.as_bytes(), "BadEdit")?;
     }
     Ok(())
-}
-
-/// A text so many times, with commas between.
-fn repeated(alloc: Global, text: &str, count: usize) -> Result<Words, NoMemory> {
-    let mut all = Words::new(alloc)?;
-    for n in 0..count {
-        push(alloc, &mut all, &[if n == 0 { "" } else { "," }, text])?;
-    }
-    Ok(all)
 }
 
 fn is_taken(alloc: Global, columns: &str, row: &str, count: usize) -> Result<bool, NoMemory> {

@@ -2,12 +2,15 @@
 ghost use Rattle.std.specs.Prelude.{◌≡◌, IfOk, option_and_then};
 ghost use Rattle.serde_json.specs.View.{view};
 ghost use Rattle.value_types.specs.declared.value.Value.TheVariants.{Text};
-ghost use Rattle.edit_wire.specs.Cells as spec;
+ghost use Rattle.dataset_types.specs.Fitting as fitting;
+ghost use Rattle.edit_wire.specs.Json as fields;
+ghost use Rattle.edit_wire.specs.Values as spec;
 
-use crate::json::{FromJson, has_members, text_field};
+use crate::from_json::{FromJson, has_members, text_field};
+use dataset_types::fitted;
 use serde_json::Value as Json;
 use std::alloc::Global;
-use value_types::{ColumnType, Name, NoMemory, Value, Words, read_fixed, read_name, widen};
+use value_types::{ColumnType, Name, NoMemory, Value, Words, read_fixed, read_name};
 
 impl FromJson for Name {
     ghost meaning = { spec.name_in };
@@ -53,25 +56,20 @@ fn value_of(alloc: Global, json: &Json) -> Result<Option<Value>, NoMemory>
     }
 }
 
-/// A value as one of a type: widened from Int to Fixed, or as it is where it fits.
-fn fitted(kind: ColumnType, value: Value) -> Option<Value>
-    ensures { result ≡ spec.fitted kind value }
+/// The value that a field is.
+pub fn value_field(alloc: Global, json: &Json, name: &str) -> Result<Option<Value>, NoMemory>
+    ensures { IfOk result (λ found. found ≡ fields.field spec.value_of name.now (view json.now)) }
 {
-    match (kind, value) {
-        (ColumnType::Fixed, Value::Int(n)) => widen(n).map(Value::Fixed),
-        (_, Value::Null) => Some(Value::Null),
-        (ColumnType::Bool, Value::Bool(truth)) => Some(Value::Bool(truth)),
-        (ColumnType::Int, Value::Int(n)) => Some(Value::Int(n)),
-        (ColumnType::Fixed, Value::Fixed(n)) => Some(Value::Fixed(n)),
-        (ColumnType::Text, Value::Text(text)) => Some(Value::Text(text)),
-        _ => None,
+    match json.get(name) {
+        Some(json) => value_of(alloc, json),
+        None => Ok(None),
     }
 }
 
 /// The value of a column of a type.
 pub fn value_for(alloc: Global, kind: ColumnType, json: &Json) -> Result<Option<Value>, NoMemory>
     ensures { IfOk result (λ found.
-        found ≡ option_and_then (spec.fitted kind) (spec.value_of (view json.now))) }
+        found ≡ option_and_then (fitting.fitted kind) (spec.value_of (view json.now))) }
 {
     match value_of(alloc, json)? {
         Some(value) => Ok(fitted(kind, value)),

@@ -1,7 +1,7 @@
 use Rattle.std.proofs.Common.{◌≡◌, ◌<◌, List, [], ◌∷◌, length, refl, sym, ap, ◌∙◌, arith, None}
 use Rattle.serde_json.specs.View.{items_view}
 use Rattle.serde_json.specs.declared.value.Value.{Value}
-use Rattle.edit_wire.specs.Cells.{column_from}
+use Rattle.edit_wire.specs.Make.{column_from}
 use Rattle.edit_wire.proofs.make.column_from.Goals as goal
 
 -- three items or more are no column

@@ -1,6 +1,6 @@
 use Rattle.std.proofs.Common.{◌≡◌, ◌+◌, ◌++◌, drop, option_map}
 use Rattle.serde_json.specs.View.{items_view}
-use Rattle.edit_wire.specs.Cells.{rows_from}
+use Rattle.edit_wire.specs.Make.{rows_from}
 use Rattle.edit_wire.proofs.make.rows_of.Given as goal
 
 -- the number of the next row, and what is found so far, before what is left

@@ -3,7 +3,7 @@ use Rattle.std.proofs.lemmas.List.{drop_all}
 use Rattle.serde_json.specs.View.{items_view}
 use Rattle.serde_json.specs.declared.value.Value.{Value}
 use Rattle.dataset_types.specs.declared.row.Marked.{Marked}
-use Rattle.edit_wire.specs.Cells.{values_of}
+use Rattle.edit_wire.specs.Make.{values_of}
 use Rattle.edit_wire.proofs.make.values_of.Goals as goal
 
 -- an item beyond the columns fits none

@@ -1,6 +1,6 @@
 use Rattle.std.proofs.Common.{◌≡◌, ◌++◌, drop, option_map}
 use Rattle.serde_json.specs.View.{items_view}
-use Rattle.edit_wire.specs.Cells.{values_of}
+use Rattle.edit_wire.specs.Make.{values_of}
 use Rattle.edit_wire.proofs.make.values_of.Given as goal
 
 -- what is found so far, before what is left

@@ -1,7 +1,7 @@
 use Rattle.std.proofs.Common.{◌≡◌, ◌++◌, drop, option_map}
 use Rattle.serde_json.specs.View.{items_view}
 use Rattle.edit_wire.specs.Json.{all_of}
-use Rattle.edit_wire.proofs.json.all_of.Given as goal
+use Rattle.edit_wire.proofs.from_json.all_of.Given as goal
 
 -- what is found so far, before what is left
 abbrev pub invariant-loop-json : goal.invariant-loop-json

@@ -3,7 +3,7 @@ use Rattle.std.specs.declared.alloc.Global.{Global}
 use Rattle.serde_json.specs.View.{members_view}
 use Rattle.serde_json.specs.declared.value.Value.{Value}
 use Rattle.edit_wire.specs.Json.{member_count}
-use Rattle.edit_wire.proofs.json.has_members.Goals as goal
+use Rattle.edit_wire.proofs.from_json.has_members.Goals as goal
 
 -- a map has as many entries as its data has members
 counted : (ms : List (String Global × Value)) → member_count (members_view ms) ≡ length ms

@@ -1,5 +1,5 @@
 //! Looking into JSON: fields of objects, and lists of things.
-ghost use Rattle.std.specs.Prelude.{◌≡◌, IfOk, Option, option_map};
+ghost use Rattle.std.specs.Prelude.{◌≡◌, ◌≤◌, IfOk, Option, option_map};
 ghost use Rattle.serde_json.specs.Data.{Data};
 ghost use Rattle.serde_json.specs.Find.{as_str, as_array};
 ghost use Rattle.serde_json.specs.View.{view, items_view};
@@ -57,6 +57,30 @@ pub fn field<T: FromJson>(alloc: Global, json: &Json, name: &str) -> Result<Opti
     match json.get(name) {
         Some(value) => T::from_json(alloc, value),
         None => Ok(None),
+    }
+}
+
+/// One where an object has a field, else none.
+pub fn counted(json: &Json, name: &str) -> usize
+    ensures value { result ≡ spec.counted name.now (view json.now) }
+    ensures bound { result ≤ 1 }
+{
+    if json.get(name).is_some() { 1 } else { 0 }
+}
+
+/// The thing that a field is, or what stands where it is missing.
+pub fn field_or<T: FromJson>(
+    alloc: Global,
+    json: &Json,
+    name: &str,
+    missing: T,
+) -> Result<Option<T>, NoMemory>
+    ensures { IfOk result (λ found.
+        found ≡ spec.field_or T.meaning missing name.now (view json.now)) }
+{
+    match json.get(name) {
+        Some(value) => T::from_json(alloc, value),
+        None => Ok(Some(missing)),
     }
 }
 

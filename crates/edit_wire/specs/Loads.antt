@@ -1,0 +1,61 @@
+-- Load cells (docs/FORMATS.md, "Edit lines").
+use Rattle.std.specs.Prelude.{ℕ, ◌+◌, ◌&&◌, List, [], length, codes, nat_le, if◌then◌else◌, Option, Some, None, option_map, option_and_then}
+use Rattle.std.specs.Str.{bytes_eq}
+use Rattle.serde_json.specs.Data.{Data, Items}
+use Rattle.serde_json.specs.Find.{as_str, as_array}
+use Rattle.value_types.specs.declared.value.ColumnType.{ColumnType}
+use Rattle.dataset_types.specs.declared.load_options.Repair.{Repair}
+use Rattle.dataset_types.specs.declared.load_options.Repair.TheVariants as repair
+use Rattle.edit_wire.specs.declared.edit.EditCell.{EditCell}
+use Rattle.edit_wire.specs.declared.edit.EditCell.TheVariants as from
+use Rattle.edit_wire.specs.Json.{with_members, field, field_or, counted, all_of}
+use Rattle.edit_wire.specs.Values.{name_in}
+use Rattle.edit_wire.specs.Make.{type_named}
+
+-- a type by its name, or none for a guess
+abbrev pub declared_named : List ℕ → Option (Option ColumnType)
+declared_named s = if bytes_eq s (codes "guess") then Some None else option_map Some (type_named s)
+
+abbrev pub declared_in : Data → Option (Option ColumnType)
+declared_in d = option_and_then declared_named (as_str d)
+
+-- at most 32 of them
+abbrev pub types_of : Items → Option (List (Option ColumnType))
+types_of ds = option_and_then (λ ts. if nat_le (length ts) 32 then Some ts else None) (all_of declared_in ds)
+
+abbrev pub types_in : Data → Option (List (Option ColumnType))
+types_in d = option_and_then types_of (as_array d)
+
+-- a repair by its name
+abbrev pub repair_named : List ℕ → Option Repair
+repair_named s =
+    if bytes_eq s (codes "null") then Some repair.Null
+    else (if bytes_eq s (codes "zero") then Some repair.Zero
+    else None)
+
+abbrev pub repair_in : Data → Option Repair
+repair_in d = option_and_then repair_named (as_str d)
+
+-- a file's name of 1 to 255 bytes
+abbrev pub file_named : List ℕ → Option (List ℕ)
+file_named s = if nat_le 1 (length s) && nat_le (length s) 255 then Some s else None
+
+abbrev pub file_in : Data → Option (List ℕ)
+file_in d = option_and_then file_named (as_str d)
+
+-- the fields of a load: `load` and `file`, and where they stand `types` and `repair`
+abbrev pub load_members : Data → ℕ
+load_members d = 2 + counted (codes "types") d + counted (codes "repair") d
+
+-- the load of a name and a file, with the types and the repair that are said or else none and `null`
+abbrev pub load_from : List ℕ → List ℕ → Data → Option EditCell
+load_from name file d =
+    option_and_then (λ types. option_map (from.Load name file types) (field_or repair_in repair.Null (codes "repair") d))
+    (field_or types_in [] (codes "types") d)
+
+-- a load cell
+unfoldable pub load_of : Data → Option EditCell
+load_of d =
+    with_members (load_members d) d
+    (option_and_then (λ name. option_and_then (λ file. load_from name file d) (field file_in (codes "file") d))
+    (field name_in (codes "load") d))
