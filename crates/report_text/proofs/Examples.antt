@@ -20,8 +20,8 @@ use Rattle.cell_model.specs.declared.cell_result.Line.{Line}
 use Rattle.cell_model.specs.declared.cell_result.CellResult.{CellResult}
 use Rattle.cell_model.specs.declared.cell_result.CellStatus.{CellStatus}
 use Rattle.cell_model.specs.declared.cell_result.CellStatus.TheVariants as status
-use Rattle.cell_model.specs.declared.fault.CellError.TheVariants as error
-use Rattle.cell_model.specs.declared.fault.EditRefusal.TheVariants as refusal
+use Rattle.cell_errors.specs.declared.fault.CellError.TheVariants as error
+use Rattle.cell_model.specs.declared.refusal.EditRefusal.TheVariants as refusal
 use Rattle.report_text.specs.Report.{block_text, starved_text, refusal_text}
 
 -- a table that is neither open nor loose

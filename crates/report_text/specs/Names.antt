@@ -4,10 +4,10 @@ use Rattle.value_types.specs.declared.value.ColumnType.{ColumnType}
 use Rattle.value_types.specs.declared.value.ColumnType.TheVariants as kind
 use Rattle.cell_model.specs.declared.cell_result.CellStatus.{CellStatus}
 use Rattle.cell_model.specs.declared.cell_result.CellStatus.TheVariants as status
-use Rattle.cell_model.specs.declared.fault.CellError.{CellError}
-use Rattle.cell_model.specs.declared.fault.CellError.TheVariants as error
-use Rattle.cell_model.specs.declared.fault.EditRefusal.{EditRefusal}
-use Rattle.cell_model.specs.declared.fault.EditRefusal.TheVariants as refusal
+use Rattle.cell_errors.specs.declared.fault.CellError.{CellError}
+use Rattle.cell_errors.specs.declared.fault.CellError.TheVariants as error
+use Rattle.cell_model.specs.declared.refusal.EditRefusal.{EditRefusal}
+use Rattle.cell_model.specs.declared.refusal.EditRefusal.TheVariants as refusal
 
 -- a column's type
 abbrev pub type_name : ColumnType → List ℕ

@@ -11,7 +11,7 @@ use Rattle.dataset_types.specs.declared.slot.Named.{Named}
 use Rattle.cell_model.specs.declared.cell.Cell.{Cell}
 use Rattle.cell_model.specs.declared.cell_result.Line.{Line}
 use Rattle.cell_model.specs.declared.cell_result.CellResult.{CellResult}
-use Rattle.cell_model.specs.declared.fault.EditRefusal.{EditRefusal}
+use Rattle.cell_model.specs.declared.refusal.EditRefusal.{EditRefusal}
 use Rattle.report_text.specs.Names.{type_name, status_name, refusal_name}
 
 -- the text where this holds, else nothing

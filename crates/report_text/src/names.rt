@@ -3,7 +3,8 @@ ghost use Rattle.std.specs.Prelude.{◌≡◌, ◌++◌, OnOk};
 ghost use Rattle.report_text.specs.Names.{type_name, error_name, status_name, refusal_name};
 
 use crate::pieces::push_number;
-use cell_model::{CellError, CellStatus, EditRefusal};
+use cell_errors::CellError;
+use cell_model::{CellStatus, EditRefusal};
 use std::alloc::Global;
 use value_types::{ColumnType, NoMemory, Words};
 

@@ -3,8 +3,9 @@ ghost use Rattle.std.specs.Prelude.{◌≡◌, IfOk};
 ghost use Rattle.dataset_types.specs.Tables.{Distinct, row_ids};
 
 use crate::{write_block, write_refusal, write_starved};
+use cell_errors::CellError;
 use cell_model::{
-    Cell, CellError, CellKind, CellResult, CellStatus, Cells, EditRefusal, Line, Results, Settled,
+    Cell, CellKind, CellResult, CellStatus, Cells, EditRefusal, Line, Results, Settled,
 };
 use dataset_types::{
     Column, Columns, Env, Marked, MarkedValues, Picks, Row, Rows, Slot, Table, all_sure,

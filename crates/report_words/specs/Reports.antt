@@ -1,12 +1,13 @@
 -- What a line says, and the report of a stream's lines, each with what the shelf told of its file.
-use Rattle.std.specs.Prelude.{◌≡◌, ◌≤◌, ◌+◌, ◌-◌, ◌^◌, ◌||◌, ◌==◌, min, ℕ, suc, List, [], ◌∷◌, ◌++◌, map, length, Bool, true, false, nat_le, if◌then◌else◌, Option, Some, None, Result, Ok, Err, IfSome, unwrap_or, option_map}
-use Rattle.std.specs.List.{list_all, slice_get}
+use Rattle.std.specs.Prelude.{◌≡◌, ◌≤◌, ◌+◌, ◌-◌, ◌^◌, min, ℕ, suc, List, [], ◌∷◌, ◌++◌, map, length, nat_le, if◌then◌else◌, Option, Some, None, Result, Ok, Err, IfSome, unwrap_or, option_map}
+use Rattle.std.specs.List.{slice_get}
 use Rattle.outside_io.specs.Files.{answer_for}
+use Rattle.line_reader.specs.Blanks.{is_blank}
 use Rattle.dataset_types.specs.declared.picks.Pick.{Pick}
 use Rattle.dataset_types.specs.Envs.{empty_env}
 use Rattle.cell_model.specs.declared.cell.Cell.{Cell}
-use Rattle.cell_model.specs.declared.fault.EditRefusal.{EditRefusal}
-use Rattle.cell_model.specs.declared.fault.EditRefusal.TheVariants as refusal
+use Rattle.cell_model.specs.declared.refusal.EditRefusal.{EditRefusal}
+use Rattle.cell_model.specs.declared.refusal.EditRefusal.TheVariants as refusal
 use Rattle.cell_model.specs.declared.run.Policy.TheVariants as policy
 use Rattle.cell_model.specs.Runs.{StepData, run_of, env_after}
 use Rattle.cell_model.specs.Trails.{results_of}
@@ -24,14 +25,6 @@ use Rattle.report_words.specs.declared.said.Said.{Said}
 use Rattle.report_words.specs.declared.said.Said.TheVariants.{Nothing, Refuses, Edits}
 
 -- ---- what a line says
-
--- a space, a tab or a carriage return
-abbrev pub is_space : ℕ → Bool
-is_space b = b == 32 || b == 9 || b == 13
-
--- a line that is skipped, where it isn't too long
-abbrev pub is_blank : List ℕ → Bool
-is_blank line = list_all is_space line
 
 -- an edit, or the refusal of a line that gives none
 abbrev pub said_by : Result Edit EditRefusal → Said

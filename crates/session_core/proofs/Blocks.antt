@@ -1,12 +1,12 @@
 -- The block of a version, by its run.
-use Rattle.std.proofs.Common.{◌≡◌, ◌∙◌, ℕ, List, ap, sym, length, map, false, true, Bool}
+use Rattle.std.proofs.Common.{◌≡◌, ◌∙◌, ℕ, List, ap, sym, length}
 use Rattle.std.proofs.lemmas.List.{length-map}
-use Rattle.dataset_types.specs.Envs.{EnvData, empty_env}
+use Rattle.dataset_types.specs.Envs.{empty_env}
 use Rattle.cell_model.specs.declared.cell.Cell.{Cell}
 use Rattle.cell_model.specs.declared.cell_result.CellResult.{CellResult}
 use Rattle.cell_model.specs.declared.run.Settled.{Settled}
 use Rattle.cell_model.specs.declared.run.Policy.TheVariants as policy
-use Rattle.cell_model.specs.Runs.{StepData, run_of, env_after}
+use Rattle.cell_model.specs.Runs.{StepData, env_after}
 use Rattle.cell_model.specs.Trails.{cells_of, results_of}
 use Rattle.cell_model.specs.Answers.{Settles, IsReached}
 use Rattle.cell_model.proofs.RunLemmas.{cells_of-run_of}
@@ -14,7 +14,7 @@ use Rattle.cell_kinds.specs.Kinds.{meaning}
 use Rattle.version_tree.specs.Notebook.{NotebookData}
 use Rattle.version_tree.specs.Versions.{cells_at}
 use Rattle.report_text.specs.Report.{block_text, starved_text}
-use Rattle.report_words.specs.Reports.{run_at, branch_at, version_text, id_at, IsStarvedAt}
+use Rattle.report_words.specs.Reports.{run_at, branch_at, id_at}
 use Rattle.session_core.specs.Earned.{IsWhole}
 use Rattle.session_core.specs.Books.{IsVersion}
 use Rattle.session_core.specs.declared.earned.Earned.TheVariants as earned

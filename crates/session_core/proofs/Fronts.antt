@@ -1,11 +1,10 @@
 -- Runs that are kept for the first versions.
-use Rattle.std.proofs.Common.{◌≡◌, ◌<◌, ◌≤◌, ◌+◌, ◌-◌, min, ℕ, zero, suc, List, [], ◌∷◌, ◌++◌, length, map, take, get_or, refl, ap, sym, ◌∙◌, subst, arith, Option, Some, None, Result, Ok, Err, unwrap_or, option_map, IfOk, OnErr, ◌⊎◌, inl, inr}
-use Rattle.std.proofs.lemmas.List.{get_or-take, length-take, length-map, take-append-le, map-append, length_push, take_more}
+use Rattle.std.proofs.Common.{◌≡◌, ◌≤◌, ◌+◌, ℕ, zero, suc, List, [], ◌∷◌, ◌++◌, length, map, take, get_or, refl, ap, sym, ◌∙◌, subst, arith, Result, Ok, Err, IfOk, OnErr, ◌⊎◌, inl, inr}
+use Rattle.std.proofs.lemmas.List.{length-take, length-map, take-append-le, map-append, length_push, take_more}
 use Rattle.dataset_types.specs.declared.slot.Slot.{Slot}
-use Rattle.dataset_types.specs.declared.picks.Pick.{Pick}
 use Rattle.cell_model.specs.declared.cell.Cell.{Cell}
 use Rattle.cell_model.specs.declared.cell_result.CellResult.{CellResult}
-use Rattle.cell_model.specs.declared.fault.EditRefusal.{EditRefusal}
+use Rattle.cell_model.specs.declared.refusal.EditRefusal.{EditRefusal}
 use Rattle.cell_model.specs.declared.run.Policy.{Policy}
 use Rattle.cell_model.specs.declared.run.Ran.{Ran}
 use Rattle.kept_runs.specs.Kept.{KeptData, IsDone}

@@ -1,9 +1,12 @@
 -- One line: what the shelf told, and what is earned.
-use Rattle.std.proofs.Common.{◌≡◌, ◌<◌, ◌≤◌, ◌+◌, ◌-◌, ◌^◌, min, ℕ, zero, suc, List, [], ◌∷◌, ◌++◌, length, take, refl, ap, sym, ◌∙◌, subst, inl, inr, arith, Bool, true, false, cond, nat_le, Option, Some, None, Result, Ok, Err, IfOk}
+use Rattle.std.proofs.Common.{◌≡◌, ◌≤◌, ◌+◌, ◌-◌, ◌^◌, min, ℕ, suc, List, [], ◌∷◌, ◌++◌, length, take, refl, ap, sym, ◌∙◌, subst, inl, inr, arith, Bool, true, false, cond, nat_le, Option, Some, None, option_map, unwrap_or, Result, Ok, Err, IfOk}
+use Rattle.std.specs.List.{slice_get}
+use Rattle.cell_model.specs.declared.cell.Cell.{Cell}
+use Rattle.version_tree.specs.declared.version.Version.{Version}
 use Rattle.std.proofs.lemmas.List.{length_push, take_all, length-take}
 use Rattle.std.proofs.lemmas.Bool.{cases_lt, lt-leb}
-use Rattle.cell_model.specs.declared.fault.EditRefusal.{EditRefusal}
-use Rattle.cell_model.specs.declared.fault.EditRefusal.TheVariants as refusal
+use Rattle.cell_model.specs.declared.refusal.EditRefusal.{EditRefusal}
+use Rattle.cell_model.specs.declared.refusal.EditRefusal.TheVariants as refusal
 use Rattle.line_reader.specs.Cut.{kept_most}
 use Rattle.edit_wire.specs.declared.edit.Edit.{Edit}
 use Rattle.edit_wire.specs.declared.edit.EditFault.TheVariants as fault
@@ -12,15 +15,14 @@ use Rattle.version_tree.specs.Calls.{Takes, Tells}
 use Rattle.version_tree.specs.Notebook.{NotebookData, step, asked, after}
 use Rattle.version_tree.specs.declared.told.Told.{Told}
 use Rattle.version_tree.specs.declared.told.Told.TheVariants as told
-use Rattle.report_text.specs.Report.{refusal_text}
-use Rattle.report_words.specs.Reports.{said, said_by, is_blank, MayTell, failure, after_said, earned, version_text, IsStarvedAt, IsStarvedText}
-use Rattle.report_words.specs.declared.said.Said.{Said}
+use Rattle.line_reader.specs.Blanks.{is_blank}
+use Rattle.report_words.specs.Reports.{said, said_by, branch_at, MayTell, failure, after_said, earned, version_text, IsStarvedAt}
 use Rattle.report_words.specs.declared.said.Said.TheVariants.{Nothing, Refuses, Edits}
-use Rattle.session_core.specs.Earned.{Took, Earns, EarnsText, earned_text, is_starved, IsWhole}
-use Rattle.session_core.specs.Books.{IsVersion, IsVersionText}
+use Rattle.session_core.specs.Earned.{Took, EarnsText, earned_text, is_starved}
+use Rattle.session_core.specs.Books.{IsFront, IsVersion, IsVersionText}
 use Rattle.session_core.specs.declared.earned.Earned.{Earned}
 use Rattle.session_core.specs.declared.earned.Earned.TheVariants as earned
-use Rattle.session_core.proofs.Fronts.{one_more}
+use Rattle.session_core.proofs.Fronts.{one_more, IsFront-push}
 
 -- what was told may be told, and the count rose with it
 may_told : (files : Option (List (List ℕ × List ℕ))) (before now : ℕ) (name : Option (List ℕ)) (t : Told) → Tells files before now name t
@@ -37,6 +39,29 @@ pub step_grows : (book more : NotebookData) (edit : Edit) (t : Told) → step bo
 step_grows book more edit t h =
     let one = one_more book more edit t h in
     omega (arith, ap (λ l. length l) one.versions, length_push book.versions (record { branch = edit.branch; cells = one.cells }))
+
+-- the last of some versions
+last_there : (vs : List Version) (v : Version) → slice_get (vs ++ v ∷ []) (length vs) ≡ Some v
+last_there [] v = refl
+last_there (w ∷ vs) v = last_there vs v
+
+-- the new version stands on the edit's branch
+pub branch_made : (files : Option (List (List ℕ × List ℕ))) (before now : ℕ) (book more : NotebookData) (n : ℕ) (edit : Edit)
+    → Takes (Ok n) files before now book edit more → edit.branch ≡ branch_at more n
+branch_made files before now book more n edit (t, tells, e, len) =
+    let one = one_more book more edit t e in
+    let v : Version = record { branch = edit.branch; cells = one.cells } in
+    let number : n ≡ suc (length book.versions) = len ∙ step_grows book more edit t e in
+    let there : slice_get more.versions (length book.versions) ≡ Some v =
+    ap (λ (vs : List Version). slice_get vs (length book.versions)) one.versions ∙ last_there book.versions v in
+    sym (ap (branch_at more) number ∙ ap (λ (o : Option Version). unwrap_or (option_map (λ (w : Version). w.branch) o) []) there)
+
+-- the kept runs are still those of the first versions
+pub front_made : (kept : List (List Cell)) (files : Option (List (List ℕ × List ℕ))) (before now : ℕ) (book more : NotebookData) (n : ℕ) (edit : Edit)
+    → Takes (Ok n) files before now book edit more → IsFront kept book.versions → IsFront kept more.versions
+front_made kept files before now book more n edit (t, tells, e, len) is =
+    let one = one_more book more edit t e in
+    subst (IsFront kept) (sym one.versions) (IsFront-push kept book.versions (record { branch = edit.branch; cells = one.cells }) is)
 
 -- what the new version earns is what the line earns
 made_text : (b : Bool) (text : List ℕ) (book more : NotebookData) (line n : ℕ) (edit : Edit) (t : Told) → step book edit t ≡ Ok more → n ≡ length more.versions

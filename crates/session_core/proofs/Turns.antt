@@ -1,5 +1,5 @@
 -- The session, one line on.
-use Rattle.std.proofs.Common.{◌≡◌, false, true, Bool, ◌<◌, ◌≤◌, ◌+◌, ◌-◌, ◌^◌, min, ℕ, zero, suc, List, [], ◌∷◌, ◌++◌, length, map, refl, ap, sym, ◌∙◌, subst, inl, inr, arith, append_assoc, append-nil, Option, Some, None, Result, Ok, Err, MatchResult}
+use Rattle.std.proofs.Common.{◌≡◌, false, true, Bool, ◌≤◌, ◌+◌, ◌-◌, ◌^◌, min, ℕ, List, [], ◌∷◌, ◌++◌, length, refl, ap, sym, ◌∙◌, subst, inl, inr, arith, append_assoc, append-nil, Option, Some, None, Result, Ok, Err, MatchResult}
 use Rattle.std.specs.Io.KnownBytes.{Appends, Consumes}
 use Rattle.outside_io.specs.Texts.{AppendsFront}
 use Rattle.outside_io.proofs.Appended.{appends_more, front_after, appends_none}
@@ -9,10 +9,10 @@ use Rattle.dataset_types.specs.declared.picks.Pick.{Pick}
 use Rattle.version_tree.specs.declared.told.Told.{Told}
 use Rattle.version_tree.specs.Notebook.{NotebookData, start as new_book}
 use Rattle.report_words.specs.Reports.{said, after_line, book_from, book_of, report_from, report_of, line_text, text_said, after_said, asked_said, lines_in, MayTell, MayTellAll, failure, failures, WasTold, IsStarvedText}
-use Rattle.report_words.specs.Says.{Says, Wrote, WroteStarved}
+use Rattle.report_words.specs.Says.{Says}
 use Rattle.report_words.specs.declared.status.SessionStatus.{SessionStatus}
 use Rattle.report_words.specs.declared.status.SessionStatus.TheVariants as status
-use Rattle.session_core.specs.Earned.{Took, Earns, EarnsText, earned_text, is_starved, WritesLine}
+use Rattle.session_core.specs.Earned.{Took, EarnsText, earned_text, is_starved, WritesLine}
 use Rattle.session_core.specs.Turns.{Stood}
 use Rattle.session_core.specs.declared.earned.Earned.{Earned}
 

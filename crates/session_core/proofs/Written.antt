@@ -1,5 +1,5 @@
 -- What was written of what a line earns.
-use Rattle.std.proofs.Common.{◌≡◌, ℕ, List, Option, false, refl, Err}
+use Rattle.std.proofs.Common.{◌≡◌, ℕ, List, Option, false, Err}
 use Rattle.outside_io.specs.Texts.{AppendsFront}
 use Rattle.outside_io.specs.declared.sink.WriteFault.{WriteFault}
 use Rattle.outside_io.specs.declared.sink.WriteFault.TheVariants as fault

@@ -153,6 +153,7 @@ impl Book {
         earned_by(alloc, &self.notebook, version, branch, ran)
     }
 
+    #[tactic(auto, using(crate::proofs::Taken::took_refused))]
     fn take_edit<H: Shelf>(
         &mut self,
         alloc: Global,

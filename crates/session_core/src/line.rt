@@ -1,29 +1,17 @@
 //! What a line says.
 ghost use Rattle.std.specs.Prelude.{◌≡◌, IfOk};
-ghost use Rattle.std.specs.List.{list_all};
 ghost use Rattle.edit_wire.specs.Wire.{edit_of};
-ghost use Rattle.report_words.specs.Reports.{is_space, is_blank, said, said_by};
+ghost use Rattle.report_words.specs.Reports.{said, said_by};
 
 use cell_model::EditRefusal;
 use edit_wire::{EditFault, edit_of};
+use line_reader::is_blank;
 use report_words::Said;
 use std::alloc::Global;
 use value_types::NoMemory;
 
 /// The bytes of a line without its line feed, at most.
 const LINE_LIMIT: usize = 65_536;
-
-fn is_space(byte: u8) -> bool
-    ensures { result ≡ is_space byte }
-{
-    byte == b' ' || byte == b'\t' || byte == b'\r'
-}
-
-fn is_blank(line: &[u8]) -> bool
-    ensures { result ≡ is_blank line.now }
-{
-    line.iter().all(|byte| is_space(*byte))
-}
 
 fn said_by(alloc: Global, line: &[u8]) -> Result<Said, NoMemory>
     ensures { IfOk result (λ s. s ≡ said_by (edit_of line.now)) }

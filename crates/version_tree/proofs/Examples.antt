@@ -1,18 +1,21 @@
 -- Worked examples of the notebook, each closed by computing.
-use Rattle.std.proofs.Common.{◌≡◌, refl, ℕ, List, [], ◌∷◌, Some, None, Result, Err}
+use Rattle.std.proofs.Common.{◌≡◌, refl, ℕ, List, [], ◌∷◌, Some, None, Result, Ok, Err}
 use Rattle.std.specs.Prelude.{codes, map}
 use Rattle.cell_model.specs.declared.cell.Cell.{Cell}
 use Rattle.cell_model.specs.declared.cell.CellKind.{CellKind}
-use Rattle.cell_model.specs.declared.fault.EditRefusal.{EditRefusal}
-use Rattle.cell_model.specs.declared.fault.EditRefusal.TheVariants as refusal
+use Rattle.cell_model.specs.declared.refusal.EditRefusal.{EditRefusal}
+use Rattle.cell_model.specs.declared.refusal.EditRefusal.TheVariants as refusal
 use Rattle.dataset_types.specs.declared.picks.Pick.{Pick}
 use Rattle.edit_wire.specs.declared.edit.Edit.{Edit}
 use Rattle.edit_wire.specs.declared.edit.EditCell.TheVariants as cell
 use Rattle.edit_wire.specs.declared.edit.EditKind.{EditKind}
 use Rattle.edit_wire.specs.declared.edit.EditKind.TheVariants as kind
+use Rattle.cell_model.specs.declared.cell.CellKind.TheVariants as does
+use Rattle.outside_io.specs.declared.shelf.Fetched.TheVariants as fetched
+use Rattle.dataset_types.specs.declared.load_options.Repair.TheVariants as repair
 use Rattle.version_tree.specs.Versions.{main, head_of, cells_of}
 use Rattle.version_tree.specs.Limits.{prefixes_of}
-use Rattle.version_tree.specs.Notebook.{NotebookData, start, step, notebook_from}
+use Rattle.version_tree.specs.Notebook.{NotebookData, start, step, asked, notebook_from}
 use Rattle.version_tree.specs.Prefixes.{all_prefixes}
 use Rattle.version_tree.specs.declared.head.Head.TheVariants as head
 use Rattle.version_tree.specs.declared.told.Told.{Told}
@@ -24,7 +27,7 @@ b = codes "b"
 abbrev edit : List ℕ → EditKind → Edit
 edit branch kind = record { branch = branch; kind = kind }
 
--- no edit has a file yet
+-- edits for which no file is asked
 abbrev untold : List Edit → List (Edit × Told)
 untold edits = map (λ e. (e, told.NotAsked)) edits
 
@@ -108,3 +111,26 @@ three_prefixes picks k = refl
 four_prefixes_one_twice : (picks : List Pick) (k : CellKind)
     → all_prefixes (on_two picks k).versions ≡ (1 ∷ []) ∷ (1 ∷ []) ∷ (4 ∷ []) ∷ (4 ∷ 1 ∷ []) ∷ []
 four_prefixes_one_twice picks k = refl
+
+-- ---- what the shelf tells of the file of a load
+
+abbrev load : List ℕ → Edit
+load branch = edit branch (kind.Append (cell.Load (codes "p") (codes "p.csv") [] repair.Null))
+
+-- the version has the bytes of the file
+file_there : (picks : List Pick) (bytes : List ℕ) → step (start picks) (load main) (told.Got (fetched.Bytes bytes))
+    ≡ Ok (record { picks = picks; versions = record { branch = main; cells = record { id = 1; kind = does.Load (codes "p") bytes [] repair.Null; picks = picks } ∷ [] } ∷ [] })
+file_there picks bytes = refl
+
+file_missing : (picks : List Pick) → step (start picks) (load main) (told.Got fetched.Missing) ≡ Err refusal.NoFile
+file_missing picks = refl
+
+file_too_long : (picks : List Pick) → step (start picks) (load main) (told.Got fetched.TooLong) ≡ Err refusal.FileTooLong
+file_too_long picks = refl
+
+shelf_failed : (picks : List Pick) → step (start picks) (load main) told.Failed ≡ Err refusal.FileFault
+shelf_failed picks = refl
+
+-- no file is asked for where the branch isn't there
+asked_last : asked [] (load b) ≡ None
+asked_last = refl

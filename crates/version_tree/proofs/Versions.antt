@@ -4,7 +4,7 @@ use Rattle.std.proofs.lemmas.List.{length_push, take-map, drop-map, map-append}
 use Rattle.std.specs.Prelude.{is_some, is_ok}
 use Rattle.cell_model.specs.declared.cell.Cell.{Cell}
 use Rattle.cell_model.specs.declared.cell.CellKind.{CellKind}
-use Rattle.cell_model.specs.declared.fault.EditRefusal.{EditRefusal}
+use Rattle.cell_model.specs.declared.refusal.EditRefusal.{EditRefusal}
 use Rattle.dataset_types.specs.declared.picks.Pick.{Pick}
 use Rattle.edit_wire.specs.Answers.{Fails}
 use Rattle.edit_wire.specs.declared.edit.Edit.{Edit}

@@ -2,7 +2,13 @@
 use Rattle.std.specs.Prelude.{ℕ, ◌+◌, List, [], ◌∷◌, ◌++◌, length, if◌then◌else◌, Option, Some, None, Result, Ok, Err, is_ok, option_and_then}
 use Rattle.cell_model.specs.declared.cell.Cell.{Cell}
 use Rattle.cell_model.specs.declared.cell.CellKind.{CellKind}
-use Rattle.cell_model.specs.declared.fault.EditRefusal.{EditRefusal}
+use Rattle.cell_model.specs.declared.cell.CellKind.TheVariants as kind
+use Rattle.cell_model.specs.declared.refusal.EditRefusal.{EditRefusal}
+use Rattle.cell_model.specs.declared.refusal.EditRefusal.TheVariants as refusal
+use Rattle.value_types.specs.declared.value.ColumnType.{ColumnType}
+use Rattle.outside_io.specs.declared.shelf.Fetched.{Fetched}
+use Rattle.outside_io.specs.declared.shelf.Fetched.TheVariants as fetched
+use Rattle.dataset_types.specs.declared.load_options.Repair.{Repair}
 use Rattle.dataset_types.specs.declared.picks.Pick.{Pick}
 use Rattle.edit_wire.specs.declared.edit.Edit.{Edit}
 use Rattle.edit_wire.specs.declared.edit.EditCell.{EditCell}
@@ -14,6 +20,7 @@ use Rattle.version_tree.specs.Limits.{cell_in, within}
 use Rattle.version_tree.specs.declared.version.Version.{Version}
 use Rattle.version_tree.specs.declared.place.Place.{Place}
 use Rattle.version_tree.specs.declared.told.Told.{Told}
+use Rattle.version_tree.specs.declared.told.Told.TheVariants as told
 
 -- the picks that every cell holds, and the versions, oldest first
 pub record NotebookData : Type 0 where
@@ -28,9 +35,10 @@ start picks = record { picks = picks; versions = [] }
 abbrev pub plan_of : List Version → Edit → Result Place EditRefusal
 plan_of vs edit = on_ok (within vs edit) (place_of vs edit)
 
--- the file that a cell is made from: none, for every cell that there is
+-- the file that a cell is made from
 abbrev pub loads : EditCell → Option (List ℕ)
-loads (cell.Other kind) = None
+loads (cell.Load name file types repair) = Some file
+loads (cell.Other k) = None
 
 -- the file that the cell of an edit is made from
 abbrev pub file_in : EditKind → Option (List ℕ)
@@ -40,14 +48,27 @@ file_in k = option_and_then loads (cell_in k)
 abbrev pub asked : List Version → Edit → Option (List ℕ)
 asked vs edit = if is_ok (plan_of vs edit) then file_in edit.kind else None
 
+-- the load of what a shelf has
+abbrev pub load_by : List ℕ → List (Option ColumnType) → Repair → Fetched → Result CellKind EditRefusal
+load_by name types repair (fetched.Bytes bytes) = Ok (kind.Load name bytes types repair)
+load_by name types repair fetched.Missing = Err refusal.NoFile
+load_by name types repair fetched.TooLong = Err refusal.FileTooLong
+
+-- the load of what the shelf told; it is never told nothing
+abbrev pub load_told : List ℕ → List (Option ColumnType) → Repair → Told → Result CellKind EditRefusal
+load_told name types repair told.NotAsked = Err refusal.FileFault
+load_told name types repair told.Failed = Err refusal.FileFault
+load_told name types repair (told.Got f) = load_by name types repair f
+
 -- what the cell does that is made with what the shelf told
 abbrev pub made_by : EditCell → Told → Result CellKind EditRefusal
-made_by (cell.Other kind) t = Ok kind
+made_by (cell.Load name file types repair) t = load_told name types repair t
+made_by (cell.Other k) t = Ok k
 
 -- the new cell with an id, if there is one
 abbrev pub cell_made : ℕ → List Pick → Option EditCell → Told → Result (List Cell) EditRefusal
 cell_made id picks None t = Ok []
-cell_made id picks (Some c) t = on_ok (λ kind. Ok (record { id = id; kind = kind; picks = picks } ∷ [])) (made_by c t)
+cell_made id picks (Some c) t = on_ok (λ does. Ok (record { id = id; kind = does; picks = picks } ∷ [])) (made_by c t)
 
 -- the new cell of an edit, if it brings one
 abbrev pub new_cells : ℕ → List Pick → EditKind → Told → Result (List Cell) EditRefusal

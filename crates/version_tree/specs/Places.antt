@@ -1,7 +1,7 @@
 -- Where an edit goes, and the refusals NoBranch, NoVersion, NoCell and BranchTaken.
 use Rattle.std.specs.Prelude.{ℕ, ◌+◌, ◌-◌, ◌&&◌, List, ◌++◌, length, take, drop, Bool, true, false, nat_le, if◌then◌else◌, Result, Ok, Err}
-use Rattle.cell_model.specs.declared.fault.EditRefusal.{EditRefusal}
-use Rattle.cell_model.specs.declared.fault.EditRefusal.TheVariants as refusal
+use Rattle.cell_model.specs.declared.refusal.EditRefusal.{EditRefusal}
+use Rattle.cell_model.specs.declared.refusal.EditRefusal.TheVariants as refusal
 use Rattle.edit_wire.specs.declared.edit.Edit.{Edit}
 use Rattle.edit_wire.specs.declared.edit.EditKind.{EditKind}
 use Rattle.edit_wire.specs.declared.edit.EditKind.TheVariants as kind

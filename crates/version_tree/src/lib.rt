@@ -19,5 +19,5 @@ pub use head::Head;
 pub use limits::law_of_prefixes;
 pub use notebook::Notebook;
 pub use place::Place;
-pub use told::Told;
+pub use told::{Told, fetch};
 pub use version::Version;

@@ -3,23 +3,54 @@ ghost use Rattle.std.specs.Prelude.{◌≡◌, ◌∷◌, [], IfOk};
 ghost use Rattle.edit_wire.specs.Answers.{Gives};
 ghost use Rattle.version_tree.specs.Versions.{cells_at};
 ghost use Rattle.version_tree.specs.Places.{between};
-ghost use Rattle.version_tree.specs.Notebook.{made_by, new_cells};
+ghost use Rattle.version_tree.specs.Notebook.{load_told, made_by, new_cells};
 ghost use Rattle.version_tree.specs.Kept.{InPlace};
 
 use crate::place::Place;
 use crate::told::{Told, cell_in};
 use crate::version::{Version, cells_at, share};
-use cell_model::{Cell, CellKind, Cells};
-use dataset_types::Picks;
+use cell_model::{Cell, CellKind, Cells, EditRefusal};
+use dataset_types::{Picks, Repair, Types};
 use edit_wire::{EditCell, EditFault, EditKind};
+use outside_io::Fetched;
 use std::alloc::Global;
-use value_types::{ArcOf, NoMemory};
+use value_types::{ArcOf, Name, NoMemory};
+
+/// The load of what the shelf told.
+fn load_told(
+    alloc: Global,
+    name: &Name,
+    types: &Types,
+    repair: Repair,
+    told: Told,
+) -> Result<CellKind, EditFault>
+    ensures { Gives result (load_told name.now types.now repair told) }
+{
+    let bytes = match told {
+        Told::Got(Fetched::Bytes(bytes)) => bytes,
+        Told::Got(Fetched::Missing) => return Err(EditFault::Refused(EditRefusal::NoFile)),
+        Told::Got(Fetched::TooLong) => return Err(EditFault::Refused(EditRefusal::FileTooLong)),
+        Told::Failed | Told::NotAsked => return Err(EditFault::Refused(EditRefusal::FileFault)),
+    };
+    Ok(CellKind::Load {
+        name: name.copy(),
+        bytes: ArcOf::new(alloc, bytes)?,
+        types: types.copy(alloc)?,
+        repair,
+    })
+}
 
 /// What the new cell does.
-fn made_by(alloc: Global, cell: &EditCell, _told: &Told) -> Result<CellKind, EditFault>
-    ensures { Gives result (made_by cell.now _told.now) }
+fn made_by(alloc: Global, cell: &EditCell, told: Told) -> Result<CellKind, EditFault>
+    ensures { Gives result (made_by cell.now told) }
 {
     match cell {
+        EditCell::Load {
+            name,
+            types,
+            repair,
+            ..
+        } => load_told(alloc, name, types, *repair, told),
         EditCell::Other(kind) => Ok(kind.copy(alloc)?),
     }
 }
@@ -30,9 +61,9 @@ pub fn new_cells(
     id: u32,
     picks: &ArcOf<Picks>,
     kind: &EditKind,
-    told: &Told,
+    told: Told,
 ) -> Result<Cells, EditFault>
-    ensures { Gives result (new_cells id picks.now kind.now told.now) }
+    ensures { Gives result (new_cells id picks.now kind.now told) }
 {
     let mut cells = Cells::new(alloc)?;
     let Some(cell) = cell_in(kind) else {

@@ -168,9 +168,9 @@ impl Notebook {
     }
 
     /// Makes the version of an edit that has a plan.
-    fn put(&mut self, alloc: Global, edit: &Edit, plan: Plan, told: &Told) -> Result<u32, EditFault>
+    fn put(&mut self, alloc: Global, edit: &Edit, plan: Plan, told: Told) -> Result<u32, EditFault>
         requires { IsPlan self.old.versions edit.now plan.place plan.added }
-        ensures { Accepts result self.old edit.now told.now self.new }
+        ensures { Accepts result self.old edit.now told self.new }
     {
         let versions = self.versions();
         let number = versions.len() as u32 + 1;
@@ -195,7 +195,7 @@ impl Notebook {
             self.old edit.now self.new }
     {
         let plan = self.plan(alloc, edit)?;
-        let told = ask(&edit.kind, shelf);
-        self.put(alloc, edit, plan, &told)
+        let told = ask(alloc, &edit.kind, shelf)?;
+        self.put(alloc, edit, plan, told)
     }
 }

@@ -1,4 +1,4 @@
-use Rattle.std.proofs.Common.{◌≡◌, ◌∙◌, subst}
+use Rattle.std.proofs.Common.{◌∙◌, subst}
 use Rattle.cell_model.specs.Answers.{IsRun}
 use Rattle.cell_model.specs.declared.run.Ran.{Ran}
 use Rattle.cell_model.specs.declared.run.Policy.TheVariants.{Stop}

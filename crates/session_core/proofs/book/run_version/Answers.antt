@@ -1,4 +1,4 @@
-use Rattle.std.proofs.Common.{◌≡◌, ◌∙◌, ap, sym, arith, unwrap_or, Option, List, []}
+use Rattle.std.proofs.Common.{◌∙◌, ap, arith, unwrap_or, Option, List, []}
 use Rattle.cell_model.specs.declared.cell.Cell.{Cell}
 use Rattle.version_tree.specs.Versions.{cells_at}
 use Rattle.session_core.proofs.Fronts.{run_front}

@@ -1,4 +1,4 @@
-use Rattle.std.proofs.Common.{◌≡◌, ap, sym, subst, Err}
+use Rattle.std.proofs.Common.{ap, sym, subst, Err}
 use Rattle.outside_io.specs.Texts.{AppendsFront}
 use Rattle.report_words.specs.declared.status.SessionStatus.{SessionStatus}
 use Rattle.session_core.specs.Earned.{WritesLine, earned_text, is_starved}

@@ -1,5 +1,4 @@
-use Rattle.std.proofs.Common.{◌≡◌, ◌∙◌, ap, sym, subst, refl, inl, List, ℕ, ◌++◌, ◌∷◌, [], Option, MatchResult}
-use Rattle.version_tree.specs.declared.told.Told.{Told}
+use Rattle.std.proofs.Common.{◌∙◌, sym, refl, ◌++◌, ◌∷◌, []}
 use Rattle.session_core.proofs.Turns.{starts, nothing_read, nothing_told, gave_up, refiled}
 use Rattle.session_core.proofs.session.serial_session.Goals as goal
 

@@ -1,4 +1,4 @@
-use Rattle.std.proofs.Common.{◌≡◌, ◌≤◌, ◌+◌, ℕ, List}
+use Rattle.std.proofs.Common.{◌≡◌, ℕ, List}
 use Rattle.version_tree.specs.declared.told.Told.{Told}
 use Rattle.session_core.specs.Turns.{Stood}
 use Rattle.session_core.proofs.session.serial_session.Given as goal

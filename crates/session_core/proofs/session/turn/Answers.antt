@@ -1,4 +1,4 @@
-use Rattle.std.proofs.Common.{◌≡◌, ◌∙◌, ap, sym, subst, refl, inl, List, ℕ, ◌++◌, ◌∷◌, []}
+use Rattle.std.proofs.Common.{◌≡◌, ◌∙◌, inl, ◌++◌, ◌∷◌, []}
 use Rattle.report_words.specs.Reports.{lines_in}
 use Rattle.line_reader.proofs.Steps.{heard_of}
 use Rattle.session_core.proofs.Turns.{stepped, later, heard_front, whole}

@@ -1,4 +1,4 @@
-use Rattle.std.proofs.Common.{◌≡◌, ◌∙◌, ap, sym, subst, IfOk}
+use Rattle.std.proofs.Common.{◌∙◌, subst, IfOk}
 use Rattle.session_core.specs.Earned.{Took}
 use Rattle.session_core.proofs.Taken.{said_kept}
 use Rattle.session_core.proofs.book.Book.take_line.Goals as goal

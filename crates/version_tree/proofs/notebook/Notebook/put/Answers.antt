@@ -12,7 +12,7 @@ pub push-requires-clause-added : goal.push-requires-clause-added
 push-requires-clause-added c =
     let vs = c.args.self.now.versions in
     let ids : ids_of c.in_ok-cells.cells ≡ new_ids vs c.args.edit.now c.args.plan.place =
-    ids_new vs c.self.inside.picks c.args.edit.now c.args.plan.place c.args.told.now c.in_ok-new.new c.in_ok-cells.cells (length c.versions-versions.result.now)
+    ids_new vs c.self.inside.picks c.args.edit.now c.args.plan.place c.args.told c.in_ok-new.new c.in_ok-cells.cells (length c.versions-versions.result.now)
     (ap (λ (l : List Version). length l) c.versions-versions.ensures.value) c.in_ok-new.ensures
     (c.in_ok-cells.ensures ∙ ap (λ (l : List Version). between c.args.plan.place c.in_ok-new.new (cells_at l c.args.plan.place.base)) c.versions-versions.ensures.value) in
     c.requires.added ∙ ap (new_prefixes vs) (sym ids)
@@ -21,7 +21,7 @@ pub push-requires-clause-short : goal.push-requires-clause-short
 push-requires-clause-short c =
     let vs = c.args.self.now.versions in
     let ids : ids_of c.in_ok-cells.cells ≡ new_ids vs c.args.edit.now c.args.plan.place =
-    ids_new vs c.self.inside.picks c.args.edit.now c.args.plan.place c.args.told.now c.in_ok-new.new c.in_ok-cells.cells (length c.versions-versions.result.now)
+    ids_new vs c.self.inside.picks c.args.edit.now c.args.plan.place c.args.told c.in_ok-new.new c.in_ok-cells.cells (length c.versions-versions.result.now)
     (ap (λ (l : List Version). length l) c.versions-versions.ensures.value) c.in_ok-new.ensures
     (c.in_ok-cells.ensures ∙ ap (λ (l : List Version). between c.args.plan.place c.in_ok-new.new (cells_at l c.args.plan.place.base)) c.versions-versions.ensures.value) in
     omega (arith, ap (λ (l : List ℕ). length l) ids, length-map c.in_ok-cells.cells (λ (k : Cell). k.id), c.requires.short)
