@@ -24,11 +24,18 @@ fn main(rt: HostRuntime) -> ExitCode {
         }
         Err(error) => unread(&error),
     };
-    if status != Status::Done {
-        let name = status.name();
-        let _ = eprintln!(rt; "vizier: {name}");
-    }
+    tell(&rt, status);
     ExitCode::from(status.number())
+}
+
+/// Names a status other than Done on standard error, and the line of a picks file that is none.
+fn tell(rt: &HostRuntime, status: Status) {
+    let name = status.name();
+    let _ = match status {
+        Status::Done => Ok(()),
+        Status::BadPicks { line } => eprintln!(rt; "vizier: {name} {line}"),
+        _ => eprintln!(rt; "vizier: {name}"),
+    };
 }
 
 /// The words after the program's name. One that isn't UTF-8 is an error.

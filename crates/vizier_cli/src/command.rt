@@ -1,22 +1,39 @@
 //! The words of a command line.
-ghost use Rattle.std.specs.Prelude.{◌≡◌, map, string_bytes};
-ghost use Rattle.vizier_cli.specs.Words.{command_of};
+ghost use Rattle.std.specs.Prelude.{◌≡◌, map, string_bytes, option_map};
+ghost use Rattle.vizier_cli.specs.Words.{is_file, picks_option, serial_words};
 
-/// What the program is told to do.
-#[derive(Clone, Copy, Debug, PartialEq, Eq)]
-pub enum Command {
-    /// Write the report of the stream, its cells run one after another.
-    Serial,
+fn is_file(word: &str) -> bool
+    ensures { result ≡ is_file word.now }
+{
+    match word.as_bytes().first() {
+        Some(first) => *first != b'-' && word.len() <= 255,
+        None => false,
+    }
 }
 
-/// The command that the words are, if they are one.
+/// The picks file of the options, if they are options.
+fn picks_option(options: &[String]) -> Option<Option<&str>>
+    ensures { option_map (λ file. option_map (λ text. text.now) file) result
+        ≡ picks_option (map string_bytes options.now) }
+{
+    match options {
+        [] => Some(None),
+        [option, file] if option.as_str() == "--picks" && is_file(file.as_str()) => {
+            Some(Some(file.as_str()))
+        }
+        _ => None,
+    }
+}
+
+/// The picks file of the words of `serial`, if they are these.
 ///
 /// - Source: docs/FORMATS.md, "Statuses and words".
-pub fn command_of(words: &[String]) -> Option<Command>
-    ensures { result ≡ command_of (map string_bytes words.now) }
+pub fn serial_words(words: &[String]) -> Option<Option<&str>>
+    ensures { option_map (λ file. option_map (λ text. text.now) file) result
+        ≡ serial_words (map string_bytes words.now) }
 {
-    match words {
-        [word] if word.as_str() == "serial" => Some(Command::Serial),
+    match words.split_first() {
+        Some((word, options)) if word.as_str() == "serial" => picks_option(options),
         _ => None,
     }
 }

@@ -5,6 +5,7 @@
 #![tactic(auto)]
 
 mod command;
+mod opening;
 mod status;
 #[cfg(test)]
 mod tests;

@@ -17,8 +17,13 @@ pub enum Status {
     WriteFault,
     /// 4: no memory was found.
     NoMemory,
+    /// 5: this line of the picks file is the first that is neither blank nor a pick, or with line 0 the file is
+    /// missing or too long; nothing was read or written.
+    BadPicks { line: u32 },
     /// 6: the source gave a byte past the limit of a stream, and no write failed.
     StreamTooLong,
+    /// 7: the shelf failed at the picks file; nothing was read or written.
+    PicksFault,
 }
 
 impl Status {
@@ -32,7 +37,9 @@ impl Status {
             Status::ReadFault => 2,
             Status::WriteFault => 3,
             Status::NoMemory => 4,
+            Status::BadPicks { .. } => 5,
             Status::StreamTooLong => 6,
+            Status::PicksFault => 7,
         }
     }
 
@@ -46,7 +53,9 @@ impl Status {
             Status::ReadFault => "ReadFault",
             Status::WriteFault => "WriteFault",
             Status::NoMemory => "NoMemory",
+            Status::BadPicks { .. } => "BadPicks",
             Status::StreamTooLong => "StreamTooLong",
+            Status::PicksFault => "PicksFault",
         }
     }
 }

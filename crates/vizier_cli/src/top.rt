@@ -1,13 +1,14 @@
 //! The top call: all that the program does.
-ghost use Rattle.std.specs.Prelude.{◌≡◌, ◌⊎◌, ◌↔◌, ◌≤◌, List, ℕ, map, string_bytes, Some, None, length};
-ghost use Rattle.vizier_cli.specs.Words.{command_of};
+ghost use Rattle.std.specs.Prelude.{◌≡◌, ◌↔◌, List, ℕ, map, string_bytes, Some, None, true};
+ghost use Rattle.std.specs.declared.option.Option.{Option};
+ghost use Rattle.vizier_cli.specs.Words.{command_of, Serial};
 ghost use Rattle.vizier_cli.specs.Top.{Reports, Causes, Completes};
-ghost use Rattle.vizier_cli.specs.declared.command.Command.TheVariants.{Serial};
+ghost use Rattle.vizier_cli.specs.Statuses.{is_early};
 ghost use Rattle.vizier_cli.specs.declared.status.Status.TheVariants as status;
 
-use crate::command::{Command, command_of};
+use crate::command::serial_words;
+use crate::opening::{ask, opened};
 use crate::status::{Status, status_of};
-use dataset_types::Picks;
 use outside_io::{Shelf, Sink, Source};
 use session_core::serial_session;
 use std::alloc::Global;
@@ -23,26 +24,35 @@ pub fn vizier_serial<S: Source, H: Shelf, K: Sink>(
     shelf: &mut H,
     sink: &mut K,
 ) -> Status
-    // Words that are no command are refused, and nothing is read, fetched or written.
+    // Words that are no command are refused, and the shelf isn't asked.
     ensures refused { (result ≡ status.BadWords) ↔ (command_of (map string_bytes words.now) ≡ None) }
-    ensures unread { result ≡ status.BadWords → source.new ≡ source.old }
     ensures unfetched { result ≡ status.BadWords → shelf.new ≡ shelf.old }
-    ensures unwritten { result ≡ status.BadWords → sink.new ≡ sink.old }
+    // Where words or picks are refused, nothing is read or written.
+    ensures untouched { is_early result ≡ true
+        → (source.new ≡ source.old) × (sink.new ≡ sink.old) }
     // The written text is the report of the covered lines, or as much of it as the status says.
-    ensures report { command_of (map string_bytes words.now) ≡ Some Serial
-        → Reports result (S.left source.old) (S.left source.new) (K.written sink.old) (K.written sink.new)
+    ensures report { (file : Option (List ℕ))
+        → command_of (map string_bytes words.now) ≡ Some (Serial file)
+        → Reports result file (S.left source.old) (S.left source.new)
+        (K.written sink.old) (K.written sink.new)
         (H.files shelf.old) (H.faults shelf.old) (H.faults shelf.new) }
     // Each fault has its cause.
-    ensures cause { Causes result (S.faults source.old) (S.faults source.new) (K.faults sink.old) (K.faults sink.new) }
-    // Without a fault, and within the limit of a stream, the report is whole, or memory was wanting.
-    ensures complete { command_of (map string_bytes words.now) ≡ Some Serial
-        → Completes result (S.left source.old) (S.faults source.old) (S.faults source.new) (K.faults sink.old) (K.faults sink.new) }
+    ensures cause { Causes result (S.faults source.old) (S.faults source.new)
+        (K.faults sink.old) (K.faults sink.new) }
+    // Without a fault, and within the limits, the report is whole, or memory was wanting.
+    ensures complete { (file : Option (List ℕ))
+        → command_of (map string_bytes words.now) ≡ Some (Serial file)
+        → Completes result file (H.files shelf.old) (S.left source.old)
+        (S.faults source.old) (S.faults source.new) (K.faults sink.old) (K.faults sink.new) }
 {
-    let Some(Command::Serial) = command_of(words) else {
+    let Some(file) = serial_words(words) else {
         return Status::BadWords;
     };
-    let Ok(picks) = Picks::new(alloc) else {
+    let Ok(told) = ask(alloc, file, shelf) else {
         return Status::NoMemory;
     };
-    status_of(serial_session(alloc, picks, source, shelf, sink))
+    match opened(alloc, &told) {
+        Ok(picks) => status_of(serial_session(alloc, picks, source, shelf, sink)),
+        Err(status) => status,
+    }
 }
