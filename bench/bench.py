@@ -30,6 +30,20 @@ for line in sys.stdin.buffer:
 print(time.perf_counter() - start)
 """
 
+# What Python does with a file: its own time goes to standard output.
+CSV_LOADS = """
+import csv, sys, time
+start = time.perf_counter()
+with open(sys.argv[1], newline="") as file:
+    rows = csv.reader(file)
+    next(rows)
+    for row in rows:
+        for at in range(0, 8, 2):
+            row[at] = int(row[at])
+            row[at + 1] = float(row[at + 1])
+print(time.perf_counter() - start)
+"""
+
 
 # ---- runs
 
@@ -74,6 +88,16 @@ def json_loads(stream):
         process.stdout.close()
         _, status, used = os.wait4(process.pid, 0)
         process.returncode = os.waitstatus_to_exitcode(status)
+    return Run(seconds, used.ru_maxrss * 1024 / MB)
+
+
+def csv_loads(path):
+    """The time of Python's own loop over the records of a file, and the peak of that process."""
+    process = subprocess.Popen([sys.executable, "-c", CSV_LOADS, path], stdout=subprocess.PIPE)
+    seconds = float(process.stdout.read())
+    process.stdout.close()
+    _, status, used = os.wait4(process.pid, 0)
+    process.returncode = os.waitstatus_to_exitcode(status)
     return Run(seconds, used.ru_maxrss * 1024 / MB)
 
 
@@ -137,6 +161,19 @@ def versions(place, count):
         yield '{"edit":"update","branch":"main","at":%d,"cell":%s}' % (place, make_cell("t%d" % place, rows))
 
 
+def write_file(path, records):
+    """Writes a CSV file of eight columns, whole numbers beside fixed ones, and tells how long it is."""
+    numbers = random.Random(8)
+    with open(path, "w", encoding="ascii") as file:
+        file.write(",".join("c%d" % column for column in range(8)) + "\n")
+        for _ in range(records):
+            file.write(",".join(
+                "%d" % numbers.randrange(10**13, 10**14) if column % 2 == 0
+                else "%d.%04d" % (numbers.randrange(10**9, 10**10), numbers.randrange(10**4))
+                for column in range(8)) + "\n")
+    return os.path.getsize(path)
+
+
 # ---- measurements
 
 def measure_lines(command, folder):
@@ -189,13 +226,28 @@ def measure_versions(command, folder):
           f"{in_all / MB:.1f} MB out, peak {many.peak:.1f} MB")
 
 
+def measure_loads(command, folder):
+    """Loads of a file, beside Python's `csv` over the same file; the block that the program prints is in its time."""
+    stream, output, path = (os.path.join(folder, name) for name in ("stream", "output", "f.csv"))
+    os.chdir(folder)
+    print("a loaded file of eight columns, whole and fixed numbers, printed as a block")
+    for records in (1024, 2048, 4096, 8192):
+        size = write_file(path, records)
+        write_lines(stream, ['{"edit":"append","branch":"main","cell":{"load":"f","file":"f.csv"}}'])
+        ours = best(9, lambda: to_file(command, stream, output))
+        python = best(9, lambda: csv_loads(path))
+        print(f"  {size / MB:5.2f} MB, {8 * records:6} values: program {1000 * ours.seconds:7.1f} ms, "
+              f"peak {ours.peak:5.1f} MB; csv {1000 * python.seconds:7.1f} ms; ratio {ours.seconds / python.seconds:.2f}")
+    os.chdir("/")
+
+
 def main(words):
     if not words:
         print(__doc__)
         return 2
     command = [os.path.abspath(word) if os.path.exists(word) else word for word in words] + ["serial"]
     room = "/dev/shm" if os.path.isdir("/dev/shm") else None
-    for measure in (measure_lines, measure_report, measure_versions):
+    for measure in (measure_lines, measure_report, measure_versions, measure_loads):
         with tempfile.TemporaryDirectory(dir=room) as folder:
             measure(command, folder)
     return 0

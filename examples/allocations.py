@@ -7,6 +7,7 @@ number of allocations of the run. Each run must give the whole report and status
 first part of the report, or of a starved report. It needs a C compiler (`cc`), so it isn't among the
 checks of `.ci/run`. Its last line is `N passed, M failed`."""
 import os
+import shutil
 import subprocess
 import sys
 import tempfile
@@ -58,10 +59,10 @@ __attribute__((destructor)) static void told(void) {
             'if (f >= 0) { if (write(f, turned, n) < 0) {} close(f); }')
 
 
-def run(program, words, stdin, shim, number, folder):
+def run(program, words, stdin, shim, number, folder, place):
     counted = os.path.join(folder, "counted")
     env = dict(os.environ, LD_PRELOAD=shim, REFUSED=str(number), COUNTED=counted)
-    p = subprocess.run([program] + words, input=stdin, stdout=subprocess.PIPE, stderr=subprocess.PIPE, env=env, timeout=60)
+    p = subprocess.run([program] + words, input=stdin, stdout=subprocess.PIPE, stderr=subprocess.PIPE, env=env, timeout=60, cwd=place)
     made = int(open(counted).read()) if os.path.exists(counted) else 0
     return p.returncode, p.stdout, made
 
@@ -97,9 +98,11 @@ def main(argv):
         with open(source, "w") as f:
             f.write(SHIM)
         subprocess.run(["cc", "-shared", "-fPIC", "-O1", "-o", shim, source, "-ldl"], check=True)
-        _, _, all_made = run(program, words, stdin, shim, 0, folder)
+        place, data = os.path.join(folder, "place"), os.path.join(case, "data")
+        shutil.copytree(data, place) if os.path.isdir(data) else os.mkdir(place)
+        _, _, all_made = run(program, words, stdin, shim, 0, folder, place)
         for number in range(1, all_made + 1):
-            status, text, _ = run(program, words, stdin, shim, number, folder)
+            status, text, _ = run(program, words, stdin, shim, number, folder, place)
             if status == 0 and text == whole:
                 passed, done = passed + 1, done + 1
             elif status == 4 and is_front(text, whole):

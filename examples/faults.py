@@ -12,6 +12,7 @@ import tempfile
 
 SECONDS = 120
 STREAM_LIMIT = 16777216
+FILE_LIMIT = 1048576
 LINE = (b'{"edit":"append","branch":"main","cell":{"make":"t",'
         b'"columns":[["a","int"],["b","text"]],"rows":[[1,"x"],[2,null]]}}\n')
 WIDE = (b'{"edit":"append","branch":"main","cell":{"make":"t",'
@@ -98,7 +99,57 @@ def nothing_is_read_where_the_words_are_wrong(command):
     return ended(run.returncode, run.stderr, 1, "BadWords")
 
 
+def at_a_load(command, words, prepared):
+    """The program in a folder of its own, which is prepared first, over one append of a load of `f`."""
+    line = b'{"edit":"append","branch":"main","cell":{"load":"t","file":"f","types":["int"]}}\n'
+    with tempfile.TemporaryDirectory() as place:
+        prepared(os.path.join(place, "f"))
+        return subprocess.run(command + words, input=line, cwd=place, stdout=subprocess.PIPE,
+                              stderr=subprocess.PIPE, timeout=SECONDS)
+
+
+def wrote(run, text, status=0, name=None):
+    wrong = ended(run.returncode, run.stderr, status, name)
+    return wrong if run.stdout == text else wrong + [f"it wrote {run.stdout[:200]}"]
+
+
+def bytes_of(count):
+    """Makes a file of a header and one long number, with so many bytes."""
+    def write(path):
+        with open(path, "wb") as file:
+            file.write(b"n\n" + (count - 2) * b"1")
+    return write
+
+
+def a_folder_that_is_loaded_is_a_file_fault(command):
+    return wrote(at_a_load(command, ["serial"], os.mkdir), b"line 1 refused E10 FileFault\n")
+
+
+def a_file_of_one_byte_too_many_is_refused(command):
+    run = at_a_load(command, ["serial"], bytes_of(FILE_LIMIT + 1))
+    return wrote(run, b"line 1 refused E9 FileTooLong\n")
+
+
+def a_file_at_the_limit_is_loaded(command):
+    run = at_a_load(command, ["serial"], bytes_of(FILE_LIMIT))
+    return wrote(run, b"version 1 main\ncell 1 #1 ok\ndataset t\n  columns n int\n  #1: ~null\nend 1\n")
+
+
+def a_picks_file_that_is_a_folder_is_a_fault(command):
+    return wrote(at_a_load(command, ["serial", "--picks", "f"], os.mkdir), b"", 7, "PicksFault")
+
+
+def a_picks_file_of_one_byte_too_many_is_bad(command):
+    run = at_a_load(command, ["serial", "--picks", "f"], bytes_of(FILE_LIMIT + 1))
+    return wrote(run, b"", 5, "BadPicks 0")
+
+
 CHECKS = (
+    a_folder_that_is_loaded_is_a_file_fault,
+    a_file_of_one_byte_too_many_is_refused,
+    a_file_at_the_limit_is_loaded,
+    a_picks_file_that_is_a_folder_is_a_fault,
+    a_picks_file_of_one_byte_too_many_is_bad,
     a_report_to_a_full_disk_is_a_write_fault,
     a_write_fault_comes_before_a_stream_that_is_too_long,
     nothing_to_write_is_no_fault_of_a_full_disk,
