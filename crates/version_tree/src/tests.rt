@@ -1,12 +1,12 @@
 //! Tests of whole notebooks, whose cells are told apart by their ids.
 use crate::Notebook;
 use cell_model::CellKind;
-use dataset_types::{Columns, Picks, Repair, Rows, Table, Types};
+use dataset_types::{Columns, Picks, Rows, Table};
 use edit_wire::{Edit, EditCell, EditFault, EditKind};
 use outside_io::{Files, MemoryShelf, Numbers};
 use std::alloc::Global;
 use std::test::Fail;
-use value_types::{ArcOf, Bytes, Name, Words, read_name};
+use value_types::{ArcOf, Name, read_name};
 
 /// What an edit does, with an empty table as its cell.
 #[derive(Clone, Copy)]
@@ -200,88 +200,6 @@ fn there_are_at_most_768_prefixes(rt: HostRuntime) -> Result<(), Fail> {
         ("b", Does::Delete(48), "66"),
     ] {
         assert_eq!(rt; answer(alloc, &mut notebook, branch, does)?.as_str(), said);
-    }
-    Ok(())
-}
-
-/// What becomes of an append of a load of this file, over a shelf whose calls with these numbers fail.
-fn loaded(
-    alloc: Global,
-    notebook: &mut Notebook,
-    branch: &str,
-    file: &str,
-    files: Files,
-    fails: &[u64],
-) -> Result<String, Fail> {
-    let mut words = Words::new(alloc)?;
-    words.push_text(alloc, file)?;
-    let cell = EditCell::Load {
-        name: name("t")?,
-        file: words,
-        types: Types::new(alloc)?,
-        repair: Repair::Null,
-    };
-    let edit = Edit {
-        branch: name(branch)?,
-        kind: EditKind::Append { cell },
-    };
-    let mut numbers = Numbers::new(alloc)?;
-    for number in fails {
-        numbers.push(alloc, *number)?;
-    }
-    let mut shelf = MemoryShelf::new(files, numbers);
-    Ok(match notebook.accept(alloc, &edit, &mut shelf) {
-        Ok(number) => format!(in alloc; "{number}")?,
-        Err(EditFault::Refused(refusal)) => format!(in alloc; "{refusal:?}")?,
-        Err(EditFault::NoMemory) => format!(in alloc; "no memory")?,
-    })
-}
-
-fn one_file(alloc: Global, file: &str, bytes: Bytes) -> Result<Files, Fail> {
-    let mut words = Words::new(alloc)?;
-    words.push_text(alloc, file)?;
-    let mut files = Files::new(alloc)?;
-    files.push(alloc, (words, bytes))?;
-    Ok(files)
-}
-
-fn so_many(alloc: Global, count: usize) -> Result<Bytes, Fail> {
-    let bytes = vec![in alloc; b'x'; count]?;
-    Ok(Bytes::from_slice(alloc, bytes.as_slice())?)
-}
-
-#[test]
-fn a_load_has_the_bytes_of_its_file_or_is_refused(rt: HostRuntime) -> Result<(), Fail> {
-    let alloc = rt.alloc();
-    let mut notebook = empty_notebook(alloc)?;
-    let book = &mut notebook;
-    assert_eq!(rt;
-        loaded(alloc, book, "main", "f", Files::new(alloc)?, &[])?.as_str(),
-        "NoFile"
-    );
-    let long = one_file(alloc, "f", so_many(alloc, 1_048_577)?)?;
-    assert_eq!(rt;
-        loaded(alloc, book, "main", "f", long, &[])?.as_str(),
-        "FileTooLong"
-    );
-    let small = one_file(alloc, "f", so_many(alloc, 3)?)?;
-    assert_eq!(rt;
-        loaded(alloc, book, "main", "f", small, &[1])?.as_str(),
-        "FileFault"
-    );
-    let small = one_file(alloc, "f", so_many(alloc, 3)?)?;
-    assert_eq!(rt;
-        loaded(alloc, book, "b", "f", small, &[1])?.as_str(),
-        "NoBranch"
-    );
-    assert_eq!(rt; book.len(), 0, "refused loads make no version");
-    let most = one_file(alloc, "f", so_many(alloc, 1_048_576)?)?;
-    assert_eq!(rt; loaded(alloc, book, "main", "f", most, &[])?.as_str(), "1");
-    let cells = notebook.cells_of(1).ok_or("no version")?;
-    let cell = cells.get(0).ok_or("no cell")?;
-    match &cell.get().kind {
-        CellKind::Load { bytes, .. } => assert_eq!(rt; bytes.get().len(), 1_048_576),
-        CellKind::Make { .. } => return Err("a make cell")?,
     }
     Ok(())
 }
