@@ -123,8 +123,8 @@ read v = record { value = v; marked = false }
 repaired : Value → Marked
 repaired v = record { value = v; marked = true }
 
-row : ℕ → List Marked → Row
-row n values = record { id = Rec n; sure = true; values = values }
+sure_row : ℕ → List Marked → Row
+sure_row n values = record { id = Rec n; sure = true; values = values }
 
 unsure : ℕ → List Marked → Row
 unsure n values = record { id = Rec n; sure = false; values = values }
@@ -143,17 +143,17 @@ prices_columns : List Column
 prices_columns = column (codes "id") kind.Int ∷ column (codes "price") kind.Fixed ∷ []
 
 first_price : Row
-first_price = row 1 (read (value.Int (pos 1)) ∷ read (value.Fixed (pos 25000)) ∷ [])
+first_price = sure_row 1 (read (value.Int (pos 1)) ∷ read (value.Fixed (pos 25000)) ∷ [])
 
 second_price : Value → Row
-second_price v = row 2 (read (value.Int (pos 2)) ∷ repaired v ∷ [])
+second_price v = sure_row 2 (read (value.Int (pos 2)) ∷ repaired v ∷ [])
 
 repaired_by_null : load_of prices prices_types repair.Null [] 1 ≡ Ok (table_of prices_columns (first_price ∷ second_price value.Null ∷ []) false false)
-unfolding load_of records_of csv_on_literals int_of fixed_of digits prices prices_types prices_columns first_price second_price column read repaired row
+unfolding load_of records_of csv_on_literals int_of fixed_of digits prices prices_types prices_columns first_price second_price column read repaired sure_row
 repaired_by_null = simp (id-Rec, parts-Rec)
 
 repaired_by_zero : load_of prices prices_types repair.Zero [] 1 ≡ Ok (table_of prices_columns (first_price ∷ second_price (value.Fixed (pos 0)) ∷ []) false false)
-unfolding load_of records_of csv_on_literals int_of fixed_of digits prices prices_types prices_columns first_price second_price column read repaired row
+unfolding load_of records_of csv_on_literals int_of fixed_of digits prices prices_types prices_columns first_price second_price column read repaired sure_row
 repaired_by_zero = simp (id-Rec, parts-Rec)
 
 price_pick : Value → Pick
@@ -161,12 +161,12 @@ price_pick v = pick_of 1 (site.Field 2 2) (choice.Value v)
 
 -- a pick is widened as the column is
 picked_and_widened : load_of prices prices_types repair.Null (price_pick (value.Int (pos 7)) ∷ []) 1 ≡ Ok (table_of prices_columns (first_price ∷ second_price (value.Fixed (pos 70000)) ∷ []) false false)
-unfolding load_of records_of csv_on_literals int_of fixed_of digits prices prices_types prices_columns first_price second_price column read repaired row price_pick
+unfolding load_of records_of csv_on_literals int_of fixed_of digits prices prices_types prices_columns first_price second_price column read repaired sure_row price_pick
 picked_and_widened = simp (id-Rec, parts-Rec)
 
 -- the last pick counts, also where it doesn't fit and an earlier one did
 last_pick_unfit : load_of prices prices_types repair.Null (price_pick (value.Int (pos 7)) ∷ price_pick (value.Text (codes "x")) ∷ []) 1 ≡ Ok (table_of prices_columns (first_price ∷ second_price value.Null ∷ []) false false)
-unfolding load_of records_of csv_on_literals int_of fixed_of digits prices prices_types prices_columns first_price second_price column read repaired row price_pick
+unfolding load_of records_of csv_on_literals int_of fixed_of digits prices prices_types prices_columns first_price second_price column read repaired sure_row price_pick
 last_pick_unfit = simp (id-Rec, parts-Rec)
 
 ragged : List ℕ
@@ -179,18 +179,18 @@ ragged_columns : List Column
 ragged_columns = column (codes "a") kind.Int ∷ column (codes "b") kind.Int ∷ []
 
 short_row : Row
-short_row = row 1 (read (value.Int (pos 1)) ∷ repaired value.Null ∷ [])
+short_row = sure_row 1 (read (value.Int (pos 1)) ∷ repaired value.Null ∷ [])
 
 ragged_records : load_of ragged ragged_types repair.Null [] 1 ≡ Ok (table_of ragged_columns (short_row ∷ unsure 2 (read (value.Int (pos 2)) ∷ read (value.Int (pos 3)) ∷ []) ∷ []) true false)
-unfolding load_of records_of csv_on_literals int_of digits ragged ragged_types ragged_columns short_row column read repaired row unsure
+unfolding load_of records_of csv_on_literals int_of digits ragged ragged_types ragged_columns short_row column read repaired sure_row unsure
 ragged_records = simp (id-Rec, parts-Rec)
 
 -- the table is open also where the surplus record isn't kept
 not_kept : load_of ragged ragged_types repair.Null (pick_of 1 (site.Record 2) (choice.Keep false) ∷ []) 1 ≡ Ok (table_of ragged_columns (short_row ∷ []) true false)
-unfolding load_of records_of csv_on_literals int_of digits ragged ragged_types ragged_columns short_row column read repaired row
+unfolding load_of records_of csv_on_literals int_of digits ragged ragged_types ragged_columns short_row column read repaired sure_row
 not_kept = simp (id-Rec, parts-Rec)
 
 -- a type that isn't declared is guessed, and a missing field of a Text is a site too
-half_declared : load_of (codes "n,t\n1\n") (None ∷ Some kind.Text ∷ []) repair.Zero [] 1 ≡ Ok (table_of (column (codes "n") kind.Int ∷ column (codes "t") kind.Text ∷ []) (row 1 (read (value.Int (pos 1)) ∷ repaired (value.Text []) ∷ []) ∷ []) false false)
-unfolding load_of records_of csv_on_literals int_of fixed_of bool_of digits column read repaired row
+half_declared : load_of (codes "n,t\n1\n") (None ∷ Some kind.Text ∷ []) repair.Zero [] 1 ≡ Ok (table_of (column (codes "n") kind.Int ∷ column (codes "t") kind.Text ∷ []) (sure_row 1 (read (value.Int (pos 1)) ∷ repaired (value.Text []) ∷ []) ∷ []) false false)
+unfolding load_of records_of csv_on_literals int_of fixed_of bool_of digits column read repaired sure_row
 half_declared = simp (id-Rec, parts-Rec)
