@@ -44,7 +44,9 @@ fn alone(alloc: Global, cell: &Cell) -> Result<CellResult, NoMemory>
 
 impl Kinds {
     /// The work of all kinds.
-    pub fn new() -> Kinds {
+    pub fn new() -> Kinds
+        ensures { result ≡ record {} }
+    {
         Kinds
     }
 }
