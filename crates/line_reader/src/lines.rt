@@ -189,7 +189,8 @@ impl Lines {
         requires going { self.old.ended ≡ false }
         requires none { self.old.unread ≡ [] }
         requires total { self.old.total ≤ limit }
-        ensures gets { (left : Option (List ℕ)) → IsAtEnd left → GetsNext result left left self.old self.new }
+        ensures gets { (left : Option (List ℕ)) → IsAtEnd left
+            → GetsNext result left left self.old self.new }
         ensures cause { (n : ℕ) → Blames result n n }
     {
         self.ended = true;
@@ -208,8 +209,10 @@ impl Lines {
         ensures going { OnOk result (self.new.ended ≡ false) }
         ensures grows { OnOk result (self.old.total < self.new.total) }
         ensures total { OnOk result (self.new.total ≤ limit + 1) }
-        ensures more { OnOk result (KeepsOn (S.left source.old) (S.left source.new) self.old self.new) }
-        ensures gets { IfErr result (λ n. GetsNext n (S.left source.old) (S.left source.new) self.old self.new) }
+        ensures more { OnOk result
+            (KeepsOn (S.left source.old) (S.left source.new) self.old self.new) }
+        ensures gets { IfErr result (λ n.
+            GetsNext n (S.left source.old) (S.left source.new) self.old self.new) }
         ensures kept { OnOk result (S.faults source.new ≡ S.faults source.old) }
         ensures cause { IfErr result (λ n. Blames n (S.faults source.old) (S.faults source.new)) }
     {

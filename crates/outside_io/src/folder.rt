@@ -1,5 +1,5 @@
 //! A shelf over the folder that the program runs in.
-ghost use Rattle.std.specs.Prelude.{None};
+ghost use Rattle.std.specs.Prelude.{◌≡◌, None};
 
 use crate::real::read_again;
 use crate::{Fetched, Shelf, ShelfFault};
@@ -17,7 +17,10 @@ pub struct FolderShelf<'r, R> {
 }
 
 impl<'r, R: Files> FolderShelf<'r, R> {
-    pub fn new(rt: &'r R) -> FolderShelf<'r, R> {
+    /// Before its first fetch.
+    pub fn new(rt: &'r R) -> FolderShelf<'r, R>
+        ensures { result.count ≡ 0 }
+    {
         FolderShelf { rt, count: 0 }
     }
 }
@@ -36,7 +39,8 @@ impl<'r, R: Files> Shelf for FolderShelf<'r, R> {
     }
 }
 
-/// Missing where no file is found; a folder and an unreadable file are faults.
+/// Missing where no file is found, also where the name goes through a file as if it were a folder.
+/// A folder and an unreadable file are faults.
 fn fetch_file<R: Files>(
     rt: &R,
     alloc: Global,
@@ -45,8 +49,10 @@ fn fetch_file<R: Files>(
 ) -> Result<Fetched, ShelfFault> {
     match fs::open(rt, name) {
         Ok(mut file) => read_up_to(&mut file, alloc, limit),
-        Err(fault) if fault.kind() == ErrorKind::NotFound => Ok(Fetched::Missing),
-        Err(_) => Err(ShelfFault::Failed),
+        Err(fault) => match fault.kind() {
+            ErrorKind::NotFound | ErrorKind::NotADirectory => Ok(Fetched::Missing),
+            _ => Err(ShelfFault::Failed),
+        },
     }
 }
 

@@ -1,5 +1,5 @@
 //! A source over any reader and a sink over any writer, for standard input and standard output.
-ghost use Rattle.std.specs.Prelude.{◌<◌, length, IfOk};
+ghost use Rattle.std.specs.Prelude.{◌≡◌, ◌<◌, length, IfOk};
 ghost use Rattle.std.specs.Io.{ReadsAtMost, WritesAtMost};
 ghost use Rattle.std.specs.Io.KnownBytes.{ReadConsumes, WriteAppends};
 
@@ -18,7 +18,10 @@ pub struct StdinSource<R> {
 }
 
 impl<R: Read> StdinSource<R> {
-    pub fn new(reader: R) -> StdinSource<R> {
+    /// Before its first read.
+    pub fn new(reader: R) -> StdinSource<R>
+        ensures { result ≡ record { reader = reader; count = 0 } }
+    {
         StdinSource { reader, count: 0 }
     }
 }
@@ -61,7 +64,10 @@ pub struct StdoutSink<W> {
 }
 
 impl<W: Write> StdoutSink<W> {
-    pub fn new(writer: W) -> StdoutSink<W> {
+    /// Before its first write.
+    pub fn new(writer: W) -> StdoutSink<W>
+        ensures { result ≡ record { writer = writer; count = 0 } }
+    {
         StdoutSink { writer, count: 0 }
     }
 }

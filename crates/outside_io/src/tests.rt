@@ -278,10 +278,13 @@ fn a_folder_shelf_reads_files(rt: HostRuntime) -> Result<(), Fail> {
     fs::write(&rt, file.as_path(), "four")?;
     let folder = folder.to_str().ok_or("a folder that is no text")?;
     let name = file.to_str().ok_or("a file that is no text")?;
+    let through = file.join(rt.alloc(), "x")?;
+    let through = through.to_str().ok_or("a file that is no text")?;
     let mut shelf = FolderShelf::new(&rt);
     finds(&rt, &mut shelf, rt.alloc(), name, 4, "four");
     finds(&rt, &mut shelf, rt.alloc(), name, 3, "too long");
     finds(&rt, &mut shelf, rt.alloc(), folder, 9, "failed");
+    finds(&rt, &mut shelf, rt.alloc(), through, 9, "missing");
     fs::remove_file(&rt, name)?;
     finds(&rt, &mut shelf, rt.alloc(), name, 9, "missing");
     Ok(())
