@@ -13,10 +13,12 @@ use Rattle.dataset_types.specs.Tables.{TableData}
 abbrev pub shown_value : Marked → Option Value
 shown_value m = if m.marked then None else Some m.value
 
+-- a row's id and its values, blank where they have a caveat
 pub record ShownRow : Type 0 where
   pub id : RowId
   pub values : List (Option Value)
 
+-- what is shown of a sure row
 abbrev pub shown_row : Row → ShownRow
 shown_row r = record { id = r.id; values = map shown_value r.values }
 
@@ -35,6 +37,7 @@ abbrev pub placed : Bool → List ShownRow → ShownRows
 placed false rows = InOrder rows
 placed true rows = ById (values_at rows)
 
+-- what is shown of a table
 pub record ShownTable : Type 0 where
   pub columns : List Column
   pub rows : ShownRows
@@ -56,9 +59,11 @@ pub data ShownSlot : Type 0 where
   Nothing : ShownSlot
   Table : ShownTable → ShownSlot
 
+-- what is shown of a slot without doubt
 abbrev pub shown_table : Option TableData → ShownSlot
 shown_table None = Nothing
 shown_table (Some t) = Table (shown t)
 
+-- what is shown of a slot
 abbrev pub shown_slot : Slot → ShownSlot
 shown_slot slot = if slot.doubt then Doubtful else shown_table slot.table

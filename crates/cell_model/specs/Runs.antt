@@ -9,6 +9,7 @@ use Rattle.cell_model.specs.declared.cell_result.CellStatus.TheVariants as statu
 use Rattle.cell_model.specs.declared.run.Policy.{Policy}
 use Rattle.cell_model.specs.declared.run.Policy.TheVariants as policy
 
+-- whether a status is `ok`
 abbrev pub is_ok : CellStatus → Bool
 is_ok status.Ok = true
 is_ok (status.Error e) = false
@@ -41,9 +42,11 @@ pub record StepData : Type 0 where
 abbrev pub next_result : (Cell → (List ℕ → Slot) → CellResult) → Bool → EnvData → Cell → CellResult
 next_result meaning going env cell = if going then meaning cell (look env) else bare status.Blocked
 
+-- the step of a cell with this result, after an environment
 abbrev pub step_by : EnvData → Cell → CellResult → StepData
 step_by env cell r = record { cell = cell; result = r; env = after_cell env r }
 
+-- the step of a cell after an environment, where the run goes on or not
 abbrev pub step : (Cell → (List ℕ → Slot) → CellResult) → Bool → EnvData → Cell → StepData
 step meaning going env cell = step_by env cell (next_result meaning going env cell)
 

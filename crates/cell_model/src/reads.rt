@@ -63,7 +63,8 @@ pub trait Reads {
         requires { ended self.old ≡ None }
         ensures ok { IfOk result (λ s. Answers (asked self.old) name.now s (asked self.new)) }
         ensures goes_on { OnOk result (ended self.new ≡ None) }
-        ensures err { IfErr result (λ e. (asked self.new ≡ asked self.old) × Ends e (ended self.new)) }
+        ensures err { IfErr result (λ e.
+            (asked self.new ≡ asked self.old) × Ends e (ended self.new)) }
         ensures source { source self.new ≡ source self.old }
         ensures agrees { IfOk result (λ s. IfSome (source self.old) (λ look. look name.now ≡ s)) };
 }

@@ -51,13 +51,15 @@ impl<W: CellMeaning> Model for Record<W> {
 
     ghost view = { λ r. record { cell = r.cell; reads = r.reads; result = r.result } };
 
-    ghost invariant = { λ r. IsValid W.meaning W.names (record { cell = r.cell; reads = r.reads; result = r.result }) };
+    ghost invariant = { λ r.
+        IsValid W.meaning W.names (record { cell = r.cell; reads = r.reads; result = r.result }) };
 }
 
 impl<W: CellMeaning> Record<W> {
     /// A record of a run, where it is valid.
     pub fn new(cell: ArcOf<Cell>, reads: Slots, outcome: CellResult) -> Record<W>
-        requires { IsValid W.meaning W.names (record { cell = cell; reads = reads; result = outcome }) }
+        requires { IsValid W.meaning W.names
+            (record { cell = cell; reads = reads; result = outcome }) }
         ensures { result ≡ record { cell = cell; reads = reads; result = outcome } }
     {
         Record {

@@ -193,7 +193,8 @@ fn add_step<W: CellWork>(
     trail: &mut Trail,
     cell: &ArcOf<Cell>,
 ) -> Result<(), NoMemory>
-    ensures ok { OnOk result (trail.new ≡ trail.old ++ next_of W.meaning policy trail.old cell.now ∷ []) }
+    ensures ok { OnOk result
+        (trail.new ≡ trail.old ++ next_of W.meaning policy trail.old cell.now ∷ []) }
     ensures err { OnErr result (trail.new ≡ trail.old) }
 {
     let step = next_step(alloc, work, policy, trail, cell)?;

@@ -103,7 +103,8 @@ pub fn results_of(alloc: Global, trail: &Trail) -> Result<Results, NoMemory>
 /// The last step, which tells how the run goes on.
 pub fn last_of(trail: &Trail) -> Option<&Step>
     ensures env { IfSome result (λ s. env_after empty_env trail.now ≡ s.now.env) }
-    ensures going { IfSome result (λ s. (p : Policy) → going_after p true trail.now ≡ goes_on p s.now.result.status) }
+    ensures going { IfSome result (λ s. (p : Policy)
+        → going_after p true trail.now ≡ goes_on p s.now.result.status) }
     ensures empty { IsNone result → trail.now ≡ [] }
 {
     let steps = trail.as_slice();

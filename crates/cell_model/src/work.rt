@@ -46,7 +46,8 @@ pub trait CellWork: CellMeaning {
         ensures reads { IfOk result (λ r. r.reads ≡ R.asked reads.new) }
         ensures ended { IfErr result (λ e. Ends e (R.ended reads.new)) }
         ensures source { R.source reads.new ≡ R.source reads.old }
-        ensures agrees { OnOk result (IfSome (R.source reads.old) (λ look. Gives look (R.asked reads.new))) };
+        ensures agrees { OnOk result
+            (IfSome (R.source reads.old) (λ look. Gives look (R.asked reads.new))) };
 
     /// The names that a cell may read and write.
     fn estimate(&self, alloc: Global, cell: &Cell) -> Result<Estimate, NoMemory>

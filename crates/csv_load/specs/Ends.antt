@@ -17,6 +17,7 @@ abbrev pub without_end : (ℕ → Bool) → List ℕ → List ℕ
 without_end p [] = []
 without_end p (x ∷ xs) = onto (p x) x (without_end p xs)
 
+-- a space
 abbrev pub is_space : ℕ → Bool
 is_space b = b == 32
 

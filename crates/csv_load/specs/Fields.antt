@@ -45,6 +45,7 @@ zero_of kind.Int = value.Int (pos 0)
 zero_of kind.Fixed = value.Fixed (pos 0)
 zero_of kind.Text = value.Text []
 
+-- what stands at a site without a pick that fits
 abbrev pub default_of : Repair → ColumnType → Value
 default_of repair.Null k = value.Null
 default_of repair.Zero k = zero_of k

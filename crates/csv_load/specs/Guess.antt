@@ -18,9 +18,11 @@ read kind.Int text = option_map value.Int (int_of text)
 read kind.Fixed text = option_map value.Fixed (fixed_of text)
 read kind.Text text = if is_utf8 text then Some (value.Text text) else None
 
+-- whether a type's grammar reads a text
 abbrev pub is_readable : ColumnType → List ℕ → Bool
 is_readable k text = is_some (read k text)
 
+-- whether a text has a byte
 abbrev pub is_filled : List ℕ → Bool
 is_filled [] = false
 is_filled (b ∷ bs) = true
@@ -41,6 +43,7 @@ guess_by filled ints fixeds truths =
     else (if mostly truths filled then kind.Bool
     else kind.Text))
 
+-- the type of these texts
 abbrev pub guess : List (List ℕ) → ColumnType
 guess texts =
     guess_by (length texts) (count_by (is_readable kind.Int) texts) (count_by (is_readable kind.Fixed) texts)
@@ -50,6 +53,7 @@ guess texts =
 abbrev pub declared : List (Option ColumnType) → ℕ → Option ColumnType
 declared types j = unwrap_or (slice_get types j) None
 
+-- the type of the column at a place: the declared one, else the guess over all records
 abbrev pub kind_of : List (Option ColumnType) → List (List (List ℕ)) → ℕ → ColumnType
 kind_of types records j = unwrap_or (declared types j) (guess (column_texts j records))
 

@@ -6,6 +6,7 @@ use Rattle.std.specs.Char.{to_ascii_lowercase}
 use Rattle.value_types.specs.Names.{is_letter, is_digit}
 use Rattle.csv_load.specs.Ends.{without_end}
 
+-- the byte `_`
 abbrev pub is_low_line : ℕ → Bool
 is_low_line b = b == 95
 
@@ -44,9 +45,11 @@ begun (b ∷ bs) = if is_digit b then 99 ∷ 95 ∷ b ∷ bs else b ∷ bs
 abbrev pub base_name : List ℕ → List ℕ
 base_name field = begun (cut (cleaned field))
 
+-- a name with `_` and a number after it
 abbrev pub with_number : List ℕ → ℕ → List ℕ
 with_number name k = name ++ 95 ∷ decimal k
 
+-- whether no name that is taken is this one
 abbrev pub is_free : List (List ℕ) → List ℕ → Bool
 is_free taken name = not (list_any (bytes_eq name) taken)
 

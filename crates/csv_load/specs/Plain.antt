@@ -17,6 +17,7 @@ use Rattle.csv_load.specs.Load.{records_of}
 abbrev pub plain_row_of : Repairs → List Column → Numbered → PlainRow
 plain_row_of r columns p = record { id = Rec p.0; values = by_columns (field_value r) columns p }
 
+-- the rows of the records that have one, under these columns
 abbrev pub plain_table_in : Repairs → List Column → List (List (List ℕ)) → PlainTable
 plain_table_in r columns rs = record {
   columns = columns;
@@ -27,6 +28,7 @@ plain_table_in r columns rs = record {
 abbrev pub plain_limited : List (List (List ℕ)) → PlainTable → Answer PlainTable
 plain_limited rs t = if nat_le (length rs) 4294967295 && plain_within t then Ok t else Err error.TooLarge
 
+-- the plain table of a file's records: the first is the header
 abbrev pub plain_from : Repairs → List (Option ColumnType) → List (List (List ℕ)) → Answer PlainTable
 plain_from r types [] = Err error.NoHeader
 plain_from r types (header ∷ rs) = plain_limited rs (plain_table_in r (columns_of types header rs) rs)

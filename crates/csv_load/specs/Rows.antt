@@ -24,6 +24,7 @@ numbered records = enumerate_from 1 records
 abbrev pub is_surplus : ℕ → List (List ℕ) → Bool
 is_surplus width record_fields = nat_lt width (length record_fields)
 
+-- whether a choice says that a surplus record is not kept
 abbrev pub drops : Option Choice → Bool
 drops None = false
 drops (Some (choice.Value v)) = false

@@ -7,6 +7,7 @@ use Rattle.csv_load.specs.declared.guess.Tally.{Tally}
 use Rattle.csv_load.specs.Ends.{stripped}
 use Rattle.csv_load.specs.Guess.{guess_by, is_readable, declared}
 
+-- before the first record
 abbrev pub no_texts : Tally
 no_texts = record { filled = 0; ints = 0; fixeds = 0; truths = 0 }
 
@@ -24,6 +25,7 @@ with_text t (b ∷ bs) = record {
   truths = more_if (is_readable kind.Bool (b ∷ bs)) t.truths;
 }
 
+-- with the field of one record more, if it is there
 abbrev pub with_field : Tally → Option (List ℕ) → Tally
 with_field t None = t
 with_field t (Some field) = with_text t (stripped field)
@@ -32,6 +34,7 @@ with_field t (Some field) = with_text t (stripped field)
 abbrev pub with_record : List Tally → List (List ℕ) → List Tally
 with_record ts fields = map (λ p. with_field p.1 (slice_get fields p.0)) (enumerate_from 0 ts)
 
+-- the type by what was counted
 abbrev pub guess_of : Tally → ColumnType
 guess_of t = guess_by t.filled t.ints t.fixeds t.truths
 

@@ -132,7 +132,8 @@ impl Repairs<'_> {
         site: &Site,
     ) -> Result<Option<Value>, NoMemory>
         ensures { IfOk result (λ found.
-            found ≡ option_and_then (spec.chosen kind) (choice_of self.now.picks.now self.now.cell site.now)) }
+            found ≡ option_and_then (spec.chosen kind)
+            (choice_of self.now.picks.now self.now.cell site.now)) }
     {
         match self.picks.choice(self.cell, site) {
             Some(choice) => chosen(alloc, kind, choice),
@@ -175,7 +176,8 @@ impl Repairs<'_> {
 
     /// Whether the pick says that a surplus record isn't kept.
     pub(crate) fn drops(&self, number: u32) -> bool
-        ensures { result ≡ drops (choice_of self.now.picks.now self.now.cell (site_of.Record number)) }
+        ensures { result
+            ≡ drops (choice_of self.now.picks.now self.now.cell (site_of.Record number)) }
     {
         match self.picks.choice(self.cell, &Site::Record { number }) {
             Some(Choice::Keep(keep)) => !*keep,

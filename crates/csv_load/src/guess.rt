@@ -137,7 +137,8 @@ fn kinds_by(
     tallies: &[Tally],
 ) -> Result<Vec<ColumnType>, NoMemory>
     ensures { IfOk result (λ v. v.items
-        ≡ map (λ p. unwrap_or (spec.declared types.now p.0) (guess_of p.1)) (enumerate_from 0 tallies.now)) }
+        ≡ map (λ p. unwrap_or (spec.declared types.now p.0) (guess_of p.1))
+        (enumerate_from 0 tallies.now)) }
 {
     let mut kinds = Vec::new(alloc);
     for (place, tally) in tallies.iter().enumerate() {

@@ -31,7 +31,8 @@ fn values_of(
 ) -> Result<MarkedValues, NoMemory>
     requires { length columns.now ≤ 32 }
     ensures { IfOk result (λ values. values
-        ≡ spec.by_columns (marked_value (repairs_of repairs.now)) columns.now (number, fields_of fields.now)) }
+        ≡ spec.by_columns (marked_value (repairs_of repairs.now)) columns.now
+        (number, fields_of fields.now)) }
 {
     let mut values = Vec::with_capacity(alloc, columns.len())?;
     for (place, column) in columns.iter().enumerate() {
@@ -93,7 +94,8 @@ fn add_row(
     fields: &ByteRecord,
 ) -> Result<(), EvalFault>
     requires { length columns.now ≤ 32 }
-    ensures { AddsRow (repairs_of repairs.now) columns.now (number, fields_of fields.now) rows.old rows.new result }
+    ensures { AddsRow (repairs_of repairs.now) columns.now (number, fields_of fields.now)
+        rows.old rows.new result }
 {
     if !has_row(repairs, columns.len(), number, fields) {
         return Ok(());
@@ -115,7 +117,8 @@ pub(crate) fn rows_of<R: Read>(
 ) -> Result<Body, EvalFault>
     requires reading { IsReading R.remaining reader.old }
     requires narrow { length columns.now ≤ 32 }
-    ensures { GivesBody (repairs_of repairs.now) columns.now (left_of R.remaining reader.old) result }
+    ensures { GivesBody (repairs_of repairs.now) columns.now
+        (left_of R.remaining reader.old) result }
 {
     let mut rows = Rows::new(alloc)?;
     let mut is_open = false;

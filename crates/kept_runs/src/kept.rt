@@ -65,7 +65,8 @@ impl<W: CellWork> Kept<W> {
     fn front(&self, alloc: Global, base: usize, count: usize) -> Result<Trail, NoMemory>
         requires base { base ≤ length self.now.versions }
         requires count { count ≤ length (cells_at self.now.versions base) }
-        ensures { (cells : List Cell) → count ≤ length cells → take count (cells_at self.now.versions base) ≡ take count cells
+        ensures { (cells : List Cell) → count ≤ length cells
+            → take count (cells_at self.now.versions base) ≡ take count cells
             → IfOk result (λ t. Follows W.meaning self.now.policy t cells) }
     {
         if base == 0 {
@@ -77,7 +78,8 @@ impl<W: CellWork> Kept<W> {
     /// Keeps a whole run as that of the next version.
     fn keep(&mut self, alloc: Global, trail: &Trail) -> Result<(), NoMemory>
         requires { trail.now ≡ run_of W.meaning self.old.policy (cells_of trail.now) }
-        ensures ok { OnOk result (self.new ≡ record self.old { versions = self.old.versions ++ cells_of trail.now ∷ [] }) }
+        ensures ok { OnOk result (self.new
+            ≡ record self.old { versions = self.old.versions ++ cells_of trail.now ∷ [] }) }
         ensures err { OnErr result (self.new ≡ self.old) }
     {
         let kept = front_of(alloc, trail, trail.len())?;
@@ -102,8 +104,10 @@ impl<W: CellWork> Kept<W> {
         requires most { count ≤ length (cells_at self.old.versions base) }
         requires count { count ≤ length cells.now }
         requires shares { take count (cells_at self.old.versions base) ≡ take count cells.now }
-        ensures run { IfOk result (λ r. IsRun r self.old.policy (run_of W.meaning self.old.policy cells.now)) }
-        ensures kept { IfOk result (λ r. IsDone r → self.new ≡ record self.old { versions = self.old.versions ++ cells.now ∷ [] }) }
+        ensures run { IfOk result (λ r.
+            IsRun r self.old.policy (run_of W.meaning self.old.policy cells.now)) }
+        ensures kept { IfOk result (λ r. IsDone r → self.new
+            ≡ record self.old { versions = self.old.versions ++ cells.now ∷ [] }) }
         ensures starved { IfOk result (λ r. IsDone r ⊎ (self.new ≡ self.old)) }
         ensures policy { self.new.policy ≡ self.old.policy }
         ensures err { OnErr result (self.new ≡ self.old) }
