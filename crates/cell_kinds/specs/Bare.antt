@@ -1,5 +1,5 @@
 -- A cell in error gives no lines, no writes and no blur.
-use Rattle.std.specs.Prelude.{◌≡◌, ℕ, List, Bool, true, false, Ok, Err}
+use Rattle.std.specs.Prelude.{◌≡◌, ℕ, List, true, false, Ok, Err}
 use Rattle.std.proofs.Common.{subst, refl}
 use Rattle.dataset_types.specs.Tables.{TableData}
 use Rattle.dataset_types.specs.declared.picks.Pick.{Pick}

@@ -26,11 +26,14 @@ abbrev pub kind_estimate : CellKind → Estimate
 kind_estimate (kind.Make name table) = record { reads = []; writes = [] }
 kind_estimate (kind.Load name bytes types repair) = record { reads = []; writes = [] }
 
+-- what a cell gives in an environment
 abbrev pub meaning : Cell → (List ℕ → Slot) → CellResult
 meaning cell look = kind_meaning cell.id cell.picks cell.kind look
 
+-- the names that a cell reads there, in order
 abbrev pub names : Cell → (List ℕ → Slot) → List (List ℕ)
 names cell look = kind_names cell.kind look
 
+-- the names that a cell may read and write
 abbrev pub estimate : Cell → Estimate
 estimate cell = kind_estimate cell.kind

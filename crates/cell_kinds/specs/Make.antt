@@ -1,7 +1,6 @@
 -- Make cells, which hold a literal dataset.
 use Rattle.std.specs.Prelude.{ℕ, List, [], ◌∷◌, Some, false}
 use Rattle.dataset_types.specs.Tables.{TableData}
-use Rattle.dataset_types.specs.declared.slot.Named.{Named}
 use Rattle.cell_model.specs.declared.cell_result.CellResult.{CellResult}
 use Rattle.cell_model.specs.declared.cell_result.CellStatus.TheVariants as status
 

@@ -5,9 +5,11 @@
 #![tactic(auto)]
 
 mod kinds;
+mod laws;
 mod load;
 mod make;
 #[cfg(test)]
 mod tests;
 
 pub use kinds::Kinds;
+pub use laws::law_of_erasure;
