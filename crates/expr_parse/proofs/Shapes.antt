@@ -31,19 +31,19 @@ module _ {M : Type 0} (other : M → ℕ) (far : (m : M) → 9 ≤ other m) wher
   abbrev Done : Option (Stack M) → Shapes → Type 0
   Done o sh = (after : Stack M) × (o ≡ Some after) × (map (shape other) after ≡ sh)
 
-  name_on : (st : Stack M) (sh : Shapes) → map (shape other) st ≡ 0 ∷ sh → (x : List ℕ) × (rest : Stack M) × (st ≡ piece.Name x ∷ rest) × (map (shape other) rest ≡ sh)
+  pub name_on : (st : Stack M) (sh : Shapes) → map (shape other) st ≡ 0 ∷ sh → (x : List ℕ) × (rest : Stack M) × (st ≡ piece.Name x ∷ rest) × (map (shape other) rest ≡ sh)
   name_on [] sh h = cc
   name_on (piece.Name x ∷ st) sh h = (x, st, refl, cc)
   name_on (piece.Other m ∷ st) sh h = absurd (let high = far m in let same : other m ≡ 0 = cc in omega (arith, high, same))
   name_on (p ∷ st) sh h = cc
 
-  type_on : (st : Stack M) (sh : Shapes) → map (shape other) st ≡ 1 ∷ sh → (x : ColumnType) × (rest : Stack M) × (st ≡ piece.TypeWord x ∷ rest) × (map (shape other) rest ≡ sh)
+  pub type_on : (st : Stack M) (sh : Shapes) → map (shape other) st ≡ 1 ∷ sh → (x : ColumnType) × (rest : Stack M) × (st ≡ piece.TypeWord x ∷ rest) × (map (shape other) rest ≡ sh)
   type_on [] sh h = cc
   type_on (piece.TypeWord x ∷ st) sh h = (x, st, refl, cc)
   type_on (piece.Other m ∷ st) sh h = absurd (let high = far m in let same : other m ≡ 1 = cc in omega (arith, high, same))
   type_on (p ∷ st) sh h = cc
 
-  whole_on : (st : Stack M) (sh : Shapes) → map (shape other) st ≡ 2 ∷ sh → (x : ℤ) × (rest : Stack M) × (st ≡ piece.Whole x ∷ rest) × (map (shape other) rest ≡ sh)
+  pub whole_on : (st : Stack M) (sh : Shapes) → map (shape other) st ≡ 2 ∷ sh → (x : ℤ) × (rest : Stack M) × (st ≡ piece.Whole x ∷ rest) × (map (shape other) rest ≡ sh)
   whole_on [] sh h = cc
   whole_on (piece.Whole x ∷ st) sh h = (x, st, refl, cc)
   whole_on (piece.Other m ∷ st) sh h = absurd (let high = far m in let same : other m ≡ 2 = cc in omega (arith, high, same))
@@ -67,13 +67,13 @@ module _ {M : Type 0} (other : M → ℕ) (far : (m : M) → 9 ≤ other m) wher
   call_on (piece.Other m ∷ st) sh h = absurd (let high = far m in let same : other m ≡ 5 = cc in omega (arith, high, same))
   call_on (p ∷ st) sh h = cc
 
-  tree_on : (st : Stack M) (sh : Shapes) → map (shape other) st ≡ 6 ∷ sh → (x : Expr) × (rest : Stack M) × (st ≡ piece.Tree x ∷ rest) × (map (shape other) rest ≡ sh)
+  pub tree_on : (st : Stack M) (sh : Shapes) → map (shape other) st ≡ 6 ∷ sh → (x : Expr) × (rest : Stack M) × (st ≡ piece.Tree x ∷ rest) × (map (shape other) rest ≡ sh)
   tree_on [] sh h = cc
   tree_on (piece.Tree x ∷ st) sh h = (x, st, refl, cc)
   tree_on (piece.Other m ∷ st) sh h = absurd (let high = far m in let same : other m ≡ 6 = cc in omega (arith, high, same))
   tree_on (p ∷ st) sh h = cc
 
-  list_on : (st : Stack M) (sh : Shapes) → map (shape other) st ≡ 7 ∷ sh → (x : List Expr) × (rest : Stack M) × (st ≡ piece.List x ∷ rest) × (map (shape other) rest ≡ sh)
+  pub list_on : (st : Stack M) (sh : Shapes) → map (shape other) st ≡ 7 ∷ sh → (x : List Expr) × (rest : Stack M) × (st ≡ piece.List x ∷ rest) × (map (shape other) rest ≡ sh)
   list_on [] sh h = cc
   list_on (piece.List x ∷ st) sh h = (x, st, refl, cc)
   list_on (piece.Other m ∷ st) sh h = absurd (let high = far m in let same : other m ≡ 7 = cc in omega (arith, high, same))

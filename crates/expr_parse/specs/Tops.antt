@@ -50,6 +50,10 @@ ListOn {M} st = (es : List Expr) × (rest : Stack M) × (st ≡ piece.List es �
 abbrev pub ArmsOn : {M : Type 0} → Stack M → Type 0
 ArmsOn {M} st = (arms : List Arm) × (rest : Stack M) × (st ≡ piece.Arms arms ∷ rest)
 
+-- a piece of the language around is on top
+abbrev pub OtherOn : {M : Type 0} → Stack M → Type 0
+OtherOn {M} st = (m : M) × (rest : Stack M) × (st ≡ piece.Other m ∷ rest)
+
 -- the token stands in the text: a name is one once it is in lower case, and a text has its quotes
 pub record StandsIn (text : List ℕ) (l : Lexeme) : Type 0 where
   pub forward : l.at ≤ l.end

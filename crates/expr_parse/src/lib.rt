@@ -12,6 +12,8 @@ mod piece;
 mod pieces;
 #[cfg(test)]
 mod tests;
+#[cfg(test)]
+mod tests_shapes;
 mod values;
 
 pub use act::act_on;

@@ -147,4 +147,15 @@ impl<M: Drop> Pieces<M> {
             _other => unreachable!(),
         }
     }
+
+    /// The piece of the language around, on top.
+    pub fn pop_other(&mut self) -> M
+        requires { spec.OtherOn self.old }
+        ensures { self.old ≡ Piece.Other result ∷ self.new }
+    {
+        match self.stack.pop() {
+            Some(Piece::Other(piece)) => piece,
+            _other => unreachable!(),
+        }
+    }
 }

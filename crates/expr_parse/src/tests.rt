@@ -1,6 +1,6 @@
 //! Texts and their trees. Expected trees and places are worked out by hand from the grammar.
 use crate::{ParseFault, parse_expr};
-use expr_lang::{BinaryOp, Expr, UnaryOp};
+use expr_lang::Expr;
 use std::alloc::Global;
 use std::process::Abort;
 use std::test::Fail;
@@ -22,53 +22,6 @@ fn error_of(rt: &impl Abort, alloc: Global, text: &str) -> Option<u32> {
         Err(ParseFault::Syntax { at }) => Some(at),
         Err(ParseFault::NoMemory) => panic!(rt; "no memory"),
     }
-}
-
-fn op_of(expr: &Expr) -> Option<BinaryOp> {
-    match expr {
-        Expr::Binary(op, _, _) => Some(*op),
-        _ => None,
-    }
-}
-
-fn left_of<'a>(rt: &impl Abort, expr: &'a Expr) -> &'a Expr {
-    match expr {
-        Expr::Binary(_, left, _) => left.get(),
-        _ => panic!(rt; "no operator"),
-    }
-}
-
-fn right_of<'a>(rt: &impl Abort, expr: &'a Expr) -> &'a Expr {
-    match expr {
-        Expr::Binary(_, _, right) => right.get(),
-        _ => panic!(rt; "no operator"),
-    }
-}
-
-#[test]
-fn operators_bind_by_their_level(rt: HostRuntime) {
-    let whole = tree_of(&rt, rt.alloc(), "a OR b AND c = 1 + 2 * -x");
-    assert_eq!(rt; op_of(&whole), Some(BinaryOp::Or));
-    let and = right_of(&rt, &whole);
-    assert_eq!(rt; op_of(and), Some(BinaryOp::And));
-    let equal = right_of(&rt, and);
-    assert_eq!(rt; op_of(equal), Some(BinaryOp::Equal));
-    let add = right_of(&rt, equal);
-    assert_eq!(rt; op_of(add), Some(BinaryOp::Add));
-    let multiply = right_of(&rt, add);
-    assert_eq!(rt; op_of(multiply), Some(BinaryOp::Multiply));
-    assert!(rt; matches!(right_of(&rt, multiply), Expr::Unary(UnaryOp::Minus, _)));
-}
-
-#[test]
-fn operators_of_one_level_nest_to_the_left(rt: HostRuntime) {
-    let whole = tree_of(&rt, rt.alloc(), "1 - 2 + 3");
-    assert_eq!(rt; op_of(&whole), Some(BinaryOp::Add));
-    let first = left_of(&rt, &whole);
-    assert_eq!(rt; op_of(first), Some(BinaryOp::Subtract));
-    assert!(rt; matches!(left_of(&rt, first), Expr::Literal(Value::Int(1))));
-    assert!(rt; matches!(right_of(&rt, first), Expr::Literal(Value::Int(2))));
-    assert!(rt; matches!(right_of(&rt, &whole), Expr::Literal(Value::Int(3))));
 }
 
 #[test]

@@ -23,6 +23,8 @@ mod steps;
 mod table;
 #[cfg(test)]
 mod tests;
+#[cfg(test)]
+mod tests_places;
 mod token;
 mod words;
 

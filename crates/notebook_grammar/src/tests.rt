@@ -1,3 +1,4 @@
+//! Tokens, sentences and their steps. Expected places are counted by hand.
 use crate::action::{Action, ExprAction};
 use crate::fault::ParseFault;
 use crate::kind::Kind;
@@ -11,7 +12,7 @@ use std::process::Abort;
 use std::test::Fail;
 
 /// The place where the text errs, or none.
-fn error_of(rt: &impl Abort, alloc: Global, text: &str, start: Start) -> Option<u32> {
+pub(crate) fn error_of(rt: &impl Abort, alloc: Global, text: &str, start: Start) -> Option<u32> {
     assert!(rt; text.len() < 65_536);
     match steps_of(alloc, text, start) {
         Ok(_) => None,
@@ -135,28 +136,6 @@ fn scripts_err_at_the_right_place(rt: HostRuntime) {
     for (text, place) in cases.iter() {
         assert_eq!(rt; error_of(&rt, rt.alloc(), text, Start::Script), *place);
     }
-}
-
-#[test]
-fn sixty_five_levels_are_too_many(rt: HostRuntime) -> Result<(), Fail> {
-    let mut text = String::new(rt.alloc());
-    for _ in 0..64 {
-        text.push('(')?;
-    }
-    text.push('1')?;
-    for _ in 0..64 {
-        text.push(')')?;
-    }
-    assert_eq!(rt;
-        error_of(&rt, rt.alloc(), text.as_str(), Start::Expression),
-        None
-    );
-    text.insert(0, '-')?;
-    assert_eq!(rt;
-        error_of(&rt, rt.alloc(), text.as_str(), Start::Expression),
-        Some(64)
-    );
-    Ok(())
 }
 
 #[test]
