@@ -1,18 +1,17 @@
 -- The law of erasure, by `Respects`.
-use Rattle.std.proofs.Common.{◌≡◌, ℕ, Bool, true, false, ◌||◌, Option, Some, None, Ok, Err, List, [], ◌∷◌, map, refl, subst, ap, sym, length, pos}
+use Rattle.std.proofs.Common.{◌≡◌, ℕ, Bool, Option, Some, None, Ok, Err, List, [], ◌∷◌, map, refl, ap}
 use Rattle.std.specs.Prelude.{option_map}
 use Rattle.std.proofs.lemmas.List.{length-map}
 use Rattle.value_types.specs.declared.value.Value.{Value}
-use Rattle.value_types.specs.declared.value.Value.TheVariants.{Int}
 use Rattle.expr_lang.specs.declared.expr.Expr.{Expr}
 use Rattle.expr_ops.specs.declared.aggregates.Aggregate.{Aggregate}
 use Rattle.expr_ops.specs.Aggregates.{aggregate_of}
 use Rattle.dataset_types.specs.declared.picks.Pick.{Pick}
 use Rattle.cell_errors.specs.Answers.{Answer, and_then}
-use Rattle.cell_errors.specs.Seen.{Seen, after, go_on, seen_then, unmarked}
+use Rattle.cell_errors.specs.Seen.{Seen, seen_then, unmarked}
 use Rattle.expr_meaning.specs.declared.bindings.Binding.{Binding}
 use Rattle.expr_meaning.specs.Settings.{PlainBinding, MarkedSetting, plain_binding, plain_setting, at_row, at_plain_row}
-use Rattle.expr_meaning.specs.Meaning.{Plain, Reading, plain_then, read_then, seen_of, find_plain, find_marked, caveat_plain, caveat_marked, count_plain, count_marked, mark_of, over_plain, over_marked, plain_meaning, marked_meaning, marked_at}
+use Rattle.expr_meaning.specs.Meaning.{Plain, Reading, plain_then, read_then, seen_of, find_plain, find_marked, caveat_plain, caveat_marked, count_plain, count_marked, over_plain, over_marked, plain_meaning, marked_meaning, marked_at}
 use Rattle.expr_meaning.specs.Laws.{ErasesTo}
 use Rattle.expr_meaning.proofs.Respects.{respects, EachR, all_then_R}
 use Rattle.expr_meaning.proofs.Alike.{Each, Both, meant_each}

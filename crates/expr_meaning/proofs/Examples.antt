@@ -1,9 +1,9 @@
 -- Worked examples of expressions, as docs/EXPRESSIONS.md has them.
-use Rattle.std.proofs.Common.{◌≡◌, ℕ, refl, ap, sym, ◌∙◌, Bool, true, false, List, ◌∷◌, [], map, Ok, Err}
-use Rattle.std.specs.Prelude.{codes, pos, negsuc, Option, Some, None}
+use Rattle.std.proofs.Common.{◌≡◌, ℕ, refl, true, false, List, ◌∷◌, [], Ok, Err}
+use Rattle.std.specs.Prelude.{codes, pos, Option, Some, None}
 use Rattle.value_types.specs.declared.value.ColumnType.TheVariants as kind
 use Rattle.value_types.specs.declared.value.Value.{Value}
-use Rattle.value_types.specs.declared.value.Value.TheVariants.{Null, Bool as Truth, Int, Fixed, Text}
+use Rattle.value_types.specs.declared.value.Value.TheVariants.{Null, Bool as Truth, Int, Fixed}
 use Rattle.expr_lang.specs.declared.ops.BinaryOp.TheVariants as binary
 use Rattle.dataset_types.specs.Picks.{pick_of}
 use Rattle.dataset_types.specs.declared.picks.Choice.TheVariants as choice
@@ -16,7 +16,7 @@ use Rattle.expr_meaning.specs.declared.expr_type.ExprType.{ExprType}
 use Rattle.expr_meaning.specs.declared.expr_type.ExprType.TheVariants.{Null as Unknown, Of}
 use Rattle.expr_meaning.specs.Names.{Name}
 use Rattle.expr_meaning.specs.Picked.{picked}
-use Rattle.expr_meaning.specs.Forms.{applied, one_of, first_arm, first_value}
+use Rattle.expr_meaning.specs.Forms.{applied, one_of, first_arm, first_value, or_null}
 use Rattle.expr_meaning.specs.Meaning.{find_marked, caveat_marked}
 use Rattle.expr_meaning.specs.Types.{binary_typing, agreed, list_typing}
 
@@ -50,6 +50,23 @@ in_later = refl
 in_unknown : one_of (Seen Value) seen_then unmarked (plainly (Int (pos 1))) (plainly Null ∷ plainly (Int (pos 2)) ∷ []) false ≡ plainly Null
 in_unknown = refl
 
+in_none_but_null : one_of (Seen Value) seen_then unmarked (plainly Null) (plainly (Int (pos 2)) ∷ []) false ≡ plainly Null
+in_none_but_null = refl
+
+-- NOT IN is NOT of it
+not_in_later : one_of (Seen Value) seen_then unmarked (plainly (Int (pos 2))) (plainly Null ∷ plainly (Int (pos 2)) ∷ []) true ≡ plainly (Truth false)
+not_in_later = refl
+
+not_in_unknown : one_of (Seen Value) seen_then unmarked (plainly (Int (pos 1))) (plainly Null ∷ plainly (Int (pos 2)) ∷ []) true ≡ plainly Null
+not_in_unknown = refl
+
+-- 1 IN (1, 1 / 0) doesn't look at the rest, and a marked item that isn't equal marks the answer
+in_ends : one_of (Seen Value) seen_then unmarked (plainly (Int (pos 1))) (plainly (Int (pos 1)) ∷ wrong ∷ []) false ≡ plainly (Truth true)
+in_ends = refl
+
+in_marked : one_of (Seen Value) seen_then unmarked (plainly (Int (pos 1))) (marked (Int (pos 2)) ∷ plainly (Int (pos 1)) ∷ []) false ≡ marked (Truth true)
+in_marked = refl
+
 -- an empty list, which no text gives
 in_none : one_of (Seen Value) seen_then unmarked (plainly Null) [] false ≡ plainly (Truth false)
 in_none = refl
@@ -61,9 +78,20 @@ case_first = refl
 case_other : first_arm (Seen Value) seen_then unmarked ((plainly Null, marked (Int (pos 1))) ∷ []) (plainly (Int (pos 2))) ≡ plainly (Int (pos 2))
 case_other = refl
 
+-- where no condition is TRUE and there is no ELSE it is NULL
+case_none : first_arm (Seen Value) seen_then unmarked ((plainly (Truth false), wrong) ∷ []) (or_null (Seen Value) seen_then unmarked None) ≡ plainly Null
+case_none = refl
+
 -- COALESCE stops at the first value
 first_stops : first_value (Seen Value) seen_then unmarked (plainly Null ∷ plainly (Int (pos 1)) ∷ wrong ∷ []) ≡ plainly (Int (pos 1))
 first_stops = refl
+
+first_of_none : first_value (Seen Value) seen_then unmarked (plainly Null ∷ marked Null ∷ []) ≡ marked Null
+first_of_none = refl
+
+-- a comparison is marked by either side
+compared_marked : applied (Seen Value) seen_then unmarked binary.Equal (plainly (Int (pos 1))) (marked (Int (pos 2))) ≡ marked (Truth false)
+compared_marked = refl
 
 -- the mark of an operand stays beside an error
 marked_error : applied (Seen Value) seen_then unmarked binary.Divide (marked (Int (pos 1))) (plainly (Int (pos 0))) ≡ record { marked = true; answer = Err error.ZeroDivisor }

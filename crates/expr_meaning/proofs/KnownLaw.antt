@@ -1,9 +1,8 @@
 -- What is known of an expression's outcome, by `Respects`.
-use Rattle.std.proofs.Common.{◌≡◌, ℕ, Bool, true, false, Option, Some, None, Ok, Err, List, [], ◌∷◌, map, refl, subst, ap, ◌∙◌, sym, length, pos}
+use Rattle.std.proofs.Common.{◌≡◌, ℕ, Bool, true, false, Option, Some, None, Ok, Err, List, [], ◌∷◌, map, refl, subst, ap, ◌∙◌}
 use Rattle.std.specs.Prelude.{option_map}
 use Rattle.std.proofs.lemmas.List.{length-map}
 use Rattle.value_types.specs.declared.value.Value.{Value}
-use Rattle.value_types.specs.declared.value.Value.TheVariants.{Int}
 use Rattle.expr_lang.specs.declared.expr.Expr.{Expr}
 use Rattle.expr_ops.specs.declared.aggregates.Aggregate.{Aggregate}
 use Rattle.expr_ops.specs.Aggregates.{aggregate_of}

@@ -1,11 +1,11 @@
 -- Lists of operands, looked at one by one.
-use Rattle.std.proofs.Common.{◌≡◌, ℕ, suc, ◌+◌, ◌<◌, Bool, true, false, ◌||◌, Ok, Err, List, [], ◌∷◌, ◌++◌, map, drop, length, get_or, refl, sym, ap, ◌∙◌, arith, drop-cons}
+use Rattle.std.proofs.Common.{◌≡◌, ℕ, suc, ◌+◌, ◌<◌, Bool, true, false, ◌||◌, Err, List, [], ◌∷◌, ◌++◌, map, drop, length, get_or, refl, sym, ap, ◌∙◌, arith, drop-cons}
 use Rattle.value_types.specs.declared.value.Value.{Value}
 use Rattle.dataset_types.specs.declared.row.Marked.{Marked}
 use Rattle.cell_errors.specs.declared.fault.CellError.{CellError}
 use Rattle.cell_errors.specs.declared.fault.EvalFault.{EvalFault}
 use Rattle.cell_errors.specs.declared.fault.EvalFault.TheVariants.{Error, NoMemory}
-use Rattle.cell_errors.specs.Answers.{Answer, Fails}
+use Rattle.cell_errors.specs.Answers.{Answer}
 use Rattle.cell_errors.specs.Seen.{Seen, after, go_on, seen_then}
 use Rattle.expr_meaning.specs.Sees.{seen, Sees, SeesAll}
 use Rattle.expr_meaning.specs.Steps.{any_equal_marked, all_marked}

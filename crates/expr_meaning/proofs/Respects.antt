@@ -1,13 +1,12 @@
 -- Each form respects a relation between two readings that looking and giving respect. The laws are instances.
-use Rattle.std.proofs.Common.{◌≡◌, ℕ, Bool, true, false, Option, Some, None, Ok, Err, List, [], ◌∷◌, ◌++◌, map, subst, sym}
+use Rattle.std.proofs.Common.{ℕ, Bool, true, false, Option, Some, None, Ok, Err, List, [], ◌∷◌, ◌++◌, map, subst}
 use Rattle.std.specs.Bool.{⊤}
 use Rattle.value_types.specs.declared.value.Value.{Value}
-use Rattle.value_types.specs.declared.value.Value.TheVariants.{Null, Bool as Truth}
 use Rattle.expr_lang.specs.declared.ops.BinaryOp.{BinaryOp}
 use Rattle.expr_lang.specs.declared.ops.BinaryOp.TheVariants.{Or}
-use Rattle.expr_lang.specs.declared.expr.Expr.{Expr, out-Expr, roll-Expr}
-use Rattle.expr_lang.specs.declared.expr.Arm.{Arm, roll-Arm}
-use Rattle.expr_lang.specs.declared.expr.Expr.TheOpen.{Expr-F, Arm-F}
+use Rattle.expr_lang.specs.declared.expr.Expr.{Expr}
+use Rattle.expr_lang.specs.declared.expr.Arm.{Arm}
+use Rattle.expr_lang.specs.declared.expr.Expr.TheOpen.{Expr-F}
 use Rattle.expr_lang.specs.declared.expr.Expr.TheFolds.{map-Expr, fold-Expr, fold-Arm, fold-roll-Expr, fold-roll-Arm, ind-Expr}
 use Rattle.expr_ops.specs.declared.aggregates.Aggregate.{Aggregate}
 use Rattle.expr_ops.specs.declared.aggregates.Aggregate.TheVariants as aggregate

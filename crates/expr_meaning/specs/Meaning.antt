@@ -4,7 +4,6 @@ use Rattle.std.specs.Prelude.{ℕ, Bool, true, false, List, [], map, length, Ok,
 use Rattle.value_types.specs.declared.value.Value.{Value}
 use Rattle.value_types.specs.declared.value.Value.TheVariants.{Int}
 use Rattle.expr_lang.specs.declared.expr.Expr.{Expr}
-use Rattle.expr_lang.specs.declared.expr.Arm.{Arm, out-Arm}
 use Rattle.expr_lang.specs.declared.expr.Expr.TheOpen.{Expr-F, Arm-F}
 use Rattle.expr_lang.specs.declared.expr.Expr.TheFolds.{fold-Expr}
 use Rattle.expr_ops.specs.declared.aggregates.Aggregate.{Aggregate}
@@ -18,7 +17,7 @@ use Rattle.expr_meaning.specs.Names.{Name, meant}
 use Rattle.expr_meaning.specs.Picked.{picked}
 use Rattle.expr_meaning.specs.Known.{Known, known_then}
 use Rattle.expr_meaning.specs.Settings.{PlainBinding, KnownBinding, PlainSetting, MarkedSetting, KnownSetting, at_row, at_plain_row, at_known_row}
-use Rattle.expr_meaning.specs.Forms.{form, all_then, or_equal, any_equal, first_value, first_arm, or_null}
+use Rattle.expr_meaning.specs.Forms.{form, all_then}
 
 abbrev pub arm_of : (A : Type 0) → Arm-F A (A × A) → A × A
 arm_of A a = (a.condition, a.answer)

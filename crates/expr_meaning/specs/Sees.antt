@@ -5,11 +5,10 @@ use denote.Ref.{Bor}
 use Rattle.value_types.specs.declared.value.Value.{Value}
 use Rattle.dataset_types.specs.declared.row.Marked.{Marked}
 use Rattle.cell_errors.specs.declared.fault.EvalFault.{EvalFault}
-use Rattle.cell_errors.specs.declared.fault.EvalFault.TheVariants as fault
 use Rattle.cell_errors.specs.Answers.{Answer, Fails}
 use Rattle.cell_errors.specs.Seen.{Seen}
-use Rattle.expr_meaning.specs.declared.evaluate.Setting.{Setting}
-use Rattle.expr_meaning.specs.declared.evaluate.Operands.{Operands}
+use Rattle.expr_meaning.specs.declared.setting.Setting.{Setting}
+use Rattle.expr_meaning.specs.declared.setting.Operands.{Operands}
 use Rattle.expr_meaning.specs.Settings.{MarkedSetting}
 use Rattle.expr_meaning.specs.Steps.{all_marked}
 

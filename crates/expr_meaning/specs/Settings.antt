@@ -1,5 +1,5 @@
 -- The setting of an expression: a row, and in a grouped query the rows of a group.
-use Rattle.std.specs.Prelude.{ℕ, Bool, false, Option, None, option_map, Ok, Err, List, map}
+use Rattle.std.specs.Prelude.{Bool, false, Option, None, option_map, List, map}
 use Rattle.value_types.specs.declared.value.Value.{Value}
 use Rattle.dataset_types.specs.declared.row.Marked.{Marked}
 use Rattle.expr_meaning.specs.declared.bindings.Binding.{Binding}

@@ -1,6 +1,8 @@
--- The marked readings of lists of operands, which the evaluator's loops go through.
-use Rattle.std.specs.Prelude.{ℕ, List, Option, option_map}
+-- The marked readings of forms, which the evaluator goes through one by one.
+use Rattle.std.specs.Prelude.{ℕ, Bool, false, List, Ok, Option, option_map}
 use Rattle.value_types.specs.declared.value.Value.{Value}
+use Rattle.value_types.specs.declared.value.Value.TheVariants.{Bool as Truth}
+use Rattle.expr_lang.specs.declared.ops.BinaryOp.{BinaryOp}
 use Rattle.expr_lang.specs.declared.expr.Expr.{Expr}
 use Rattle.expr_lang.specs.declared.expr.Arm.{Arm, out-Arm}
 use Rattle.dataset_types.specs.declared.picks.Pick.{Pick}
@@ -8,13 +10,26 @@ use Rattle.cell_errors.specs.Answers.{Answer}
 use Rattle.cell_errors.specs.Seen.{Seen, seen_then, unmarked}
 use Rattle.expr_meaning.specs.Settings.{MarkedSetting}
 use Rattle.expr_meaning.specs.Meaning.{marked_at}
-use Rattle.expr_meaning.specs.Forms.{all_then, or_equal, any_equal, first_value, first_arm, or_null}
+use Rattle.expr_meaning.specs.Forms.{all_then, applied, or_equal, any_equal, one_of, like_of, first_value, first_arm, or_null}
+
+abbrev pub applied_marked : BinaryOp → Seen Value → Seen Value → Seen Value
+applied_marked = applied (Seen Value) seen_then unmarked
+
+abbrev pub like_marked : Seen Value → Seen Value → Bool → Seen Value
+like_marked = like_of (Seen Value) seen_then unmarked
+
+abbrev pub one_of_marked : Seen Value → List (Seen Value) → Bool → Seen Value
+one_of_marked = one_of (Seen Value) seen_then unmarked
 
 abbrev pub or_equal_marked : Seen Value → Value → Seen Value → Seen Value
 or_equal_marked = or_equal (Seen Value) seen_then unmarked
 
 abbrev pub any_equal_marked : Seen Value → Value → List (Seen Value) → Seen Value
 any_equal_marked = any_equal (Seen Value) seen_then unmarked
+
+-- whether the value equals one of the list
+abbrev pub equals_one : Value → List (Seen Value) → Seen Value
+equals_one v ys = any_equal_marked (unmarked (Ok (Truth false))) v ys
 
 abbrev pub first_value_marked : List (Seen Value) → Seen Value
 first_value_marked = first_value (Seen Value) seen_then unmarked

@@ -1,5 +1,5 @@
 -- The static types of expressions, from the columns alone.
-use Rattle.std.specs.Prelude.{ℕ, Bool, true, false, Option, Some, None, option_map, Ok, Err, List, [], ◌∷◌, map}
+use Rattle.std.specs.Prelude.{Option, Some, None, option_map, Ok, Err, List, [], ◌∷◌, map}
 use Rattle.value_types.specs.declared.value.Value.{Value}
 use Rattle.value_types.specs.declared.value.Value.TheVariants as value
 use Rattle.value_types.specs.declared.value.ColumnType.{ColumnType}

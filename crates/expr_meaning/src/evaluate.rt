@@ -1,40 +1,32 @@
-//! The evaluator.
-ghost use Rattle.std.specs.Prelude.{◌≡◌, false, length, map, pos, Ok};
-ghost use Rattle.value_types.specs.declared.value.Value.TheVariants.{Bool as Truth};
-ghost use Rattle.cell_errors.specs.Seen.{unmarked};
-ghost use Rattle.expr_meaning.specs.Sees.{Sees, SeesAll, setting_of, seen};
-ghost use Rattle.expr_meaning.specs.Settings.{at_row};
-ghost use Rattle.expr_meaning.specs.Meaning.{marked_over_row, marked_at, over_at, count_marked, find_marked};
-ghost use Rattle.expr_meaning.specs.Steps.{any_equal_marked, or_equal_marked, first_value_marked};
+//! The evaluator: a function for each form.
+//!
+//! None of them is inlined. A call pays at entry for the size of its locals, and `eval_in`, which is called for each
+//! part of a tree, has none of its own.
+ghost use Rattle.std.specs.Prelude.{Ok};
+ghost use Rattle.expr_ops.specs.Casts as casts;
+ghost use Rattle.expr_ops.specs.Ops as ops;
+ghost use Rattle.expr_ops.specs.Truths as truths;
+ghost use Rattle.expr_meaning.specs.Sees.{Sees, SeesAll, seen};
+ghost use Rattle.expr_meaning.specs.Calls.{caveat_gives, case_gives, each_gives, each_row_gives, gives, in_gives};
+ghost use Rattle.expr_meaning.specs.Calls.{like_gives, made_of, operator_gives, over_gives};
+ghost use Rattle.expr_meaning.specs.Meaning.{marked_over_row};
+ghost use Rattle.expr_meaning.specs.Steps.{equals_one, first_value_marked, or_equal_marked};
 
 use crate::bindings::Bindings;
 use crate::caveat::picked;
+use crate::marked::{beside, count_all, found, literal};
 use crate::named::meant;
+use crate::setting::{Operands, Setting};
 use cell_errors::{CellError, EvalFault};
 use dataset_types::{Marked, Picks};
-use expr_lang::{BinaryOp, Expr};
+use expr_lang::{Arm, BinaryOp, Expr, UnaryOp};
 use expr_ops::{
     Aggregate, aggregated, binary, cast, decided, equal, is_null, is_true, like, negated_if,
     null_test, unary,
 };
+use sqlite_items::Boxed;
 use std::alloc::Global;
-use value_types::{ListOf, Name, Value, Values};
-
-/// Where an expression stands: over a row, and in a grouped query over the rows of a group.
-#[derive(Clone, Copy)]
-pub(crate) struct Setting<'a> {
-    pub row: &'a Bindings,
-    pub group: Option<&'a [Bindings]>,
-    /// Which rows are in the group isn't certain.
-    pub marked: bool,
-}
-
-/// The values of an operand over the rows of a group.
-#[derive(Drop)]
-pub(crate) struct Operands {
-    pub values: Values,
-    pub marked: bool,
-}
+use value_types::{ColumnType, ListOf, Value};
 
 /// The value of an expression over a row, marked where an operand that was looked at is marked.
 ///
@@ -55,237 +47,205 @@ pub fn eval(
         row,
         group: None,
         marked: false,
+        picks,
+        cell,
     };
-    eval_in(alloc, expr, &setting, picks, cell)
-}
-
-/// What a name stands for, written again.
-fn found(
-    alloc: Global,
-    row: &Bindings,
-    qualifier: &Option<Name>,
-    name: &Name,
-) -> Result<Marked, EvalFault>
-    ensures { Sees result (find_marked row.now qualifier.now name.now) }
-{
-    let binding = meant(row.as_slice(), qualifier, name)?;
-    Ok(Marked {
-        value: binding.value.value.copy(alloc)?,
-        marked: binding.value.marked,
-    })
-}
-
-fn count_of(rows: &[Bindings]) -> i64
-    ensures { result ≡ pos (length rows.now) }
-{
-    rows.len() as i64
-}
-
-/// COUNT(*).
-fn count_all(setting: &Setting) -> Result<Marked, EvalFault>
-    ensures { Sees result (count_marked (setting_of setting.now).group setting.now.marked) }
-{
-    match setting.group {
-        None => Err(EvalFault::Error(CellError::TypeFault)),
-        Some(rows) => Ok(Marked {
-            value: Value::Int(count_of(rows)),
-            marked: setting.marked,
-        }),
-    }
+    eval_in(alloc, expr, &setting)
 }
 
 /// The value of an expression in its setting.
 #[cycle(eval)]
 #[tactic(auto, using(crate::proofs::Readings::readings))]
-pub(crate) fn eval_in(
-    alloc: Global,
-    expr: &Expr,
-    setting: &Setting,
-    picks: &Picks,
-    cell: u32,
-) -> Result<Marked, EvalFault>
-    ensures { Sees result (marked_at (setting_of setting.now) picks.now cell expr.now) }
+pub(crate) fn eval_in(alloc: Global, expr: &Expr, setting: &Setting) -> Result<Marked, EvalFault>
+    ensures { Sees result (gives setting.now expr.now) }
 {
     match expr {
-        Expr::Literal(value) => Ok(Marked {
-            value: value.copy(alloc)?,
-            marked: false,
-        }),
+        Expr::Literal(value) => literal(alloc, value),
         Expr::Column { qualifier, name } => found(alloc, setting.row, qualifier, name),
-        Expr::Unary(op, of) => {
-            let x = eval_in(alloc, of.get(), setting, picks, cell)?;
-            Ok(Marked {
-                value: unary(alloc, *op, &x.value)?,
-                marked: x.marked,
-            })
-        }
-        Expr::Binary(op, a, b) => {
-            let left = eval_in(alloc, a.get(), setting, picks, cell)?;
-            match decided(*op, &left.value)? {
-                Some(value) => Ok(Marked {
-                    value,
-                    marked: left.marked,
-                }),
-                None => {
-                    let right = eval_in(alloc, b.get(), setting, picks, cell)?;
-                    let value = binary(alloc, *op, left.value, &right.value)?;
-                    Ok(Marked {
-                        value,
-                        marked: left.marked || right.marked,
-                    })
-                }
-            }
-        }
-        Expr::IsNull { of, negated } => {
-            let x = eval_in(alloc, of.get(), setting, picks, cell)?;
-            Ok(Marked {
-                value: null_test(*negated, &x.value),
-                marked: x.marked,
-            })
-        }
+        Expr::Unary(op, of) => unary_of(alloc, *op, of.get(), setting),
+        Expr::Binary(op, left, right) => applied(alloc, *op, left.get(), right.get(), setting),
+        Expr::IsNull { of, negated } => null_test_of(alloc, of.get(), *negated, setting),
         Expr::Like {
             of,
             pattern,
             negated,
-        } => {
-            let x = eval_in(alloc, of.get(), setting, picks, cell)?;
-            let y = eval_in(alloc, pattern.get(), setting, picks, cell)?;
-            let holds = like(alloc, &x.value, &y.value)?;
-            Ok(Marked {
-                value: negated_if(*negated, holds)?,
-                marked: x.marked || y.marked,
-            })
-        }
+        } => is_like(alloc, of.get(), pattern.get(), *negated, setting),
         Expr::OneOf { of, list, negated } => {
-            let x = eval_in(alloc, of.get(), setting, picks, cell)?;
-            let holds = any_equal(alloc, &x.value, list.as_slice(), setting, picks, cell)?;
-            Ok(Marked {
-                value: negated_if(*negated, holds.value)?,
-                marked: x.marked || holds.marked,
-            })
+            one_of(alloc, list.as_slice(), of.get(), *negated, setting)
         }
-        Expr::Case { arms, otherwise } => {
-            let mut marked = false;
-            for arm in arms.as_slice() {
-                let test = eval_in(alloc, &arm.condition, setting, picks, cell)?;
-                marked = marked || test.marked;
-                if is_true(&test.value)? {
-                    let answer = eval_in(alloc, &arm.answer, setting, picks, cell)?;
-                    return Ok(Marked {
-                        value: answer.value,
-                        marked: marked || answer.marked,
-                    });
-                }
-            }
-            match otherwise {
-                None => Ok(Marked {
-                    value: Value::Null,
-                    marked,
-                }),
-                Some(other) => {
-                    let x = eval_in(alloc, other.get(), setting, picks, cell)?;
-                    Ok(Marked {
-                        value: x.value,
-                        marked: marked || x.marked,
-                    })
-                }
-            }
-        }
-        Expr::Coalesce(list) => first_value(alloc, list.as_slice(), setting, picks, cell),
-        Expr::Cast { of, kind } => {
-            let x = eval_in(alloc, of.get(), setting, picks, cell)?;
-            Ok(Marked {
-                value: cast(alloc, x.value, *kind)?,
-                marked: x.marked,
-            })
-        }
-        Expr::Caveat { of, call, .. } => {
-            let x = eval_in(alloc, of.get(), setting, picks, cell)?;
-            Ok(Marked {
-                value: picked(alloc, picks, cell, *call, x.value)?,
-                marked: true,
-            })
-        }
+        Expr::Case { arms, otherwise } => first_arm(alloc, arms.as_slice(), otherwise, setting),
+        Expr::Coalesce(list) => first_value(alloc, list.as_slice(), setting),
+        Expr::Cast { of, kind } => cast_of(alloc, of.get(), *kind, setting),
+        Expr::Caveat { of, call, .. } => with_caveat(alloc, of.get(), *call, setting),
         Expr::CountAll => count_all(setting),
-        Expr::Count(of) => over_group(alloc, Aggregate::Count, of.get(), setting, picks, cell),
-        Expr::Sum(of) => over_group(alloc, Aggregate::Sum, of.get(), setting, picks, cell),
-        Expr::Min(of) => over_group(alloc, Aggregate::Min, of.get(), setting, picks, cell),
-        Expr::Max(of) => over_group(alloc, Aggregate::Max, of.get(), setting, picks, cell),
+        Expr::Count(of) => over_group(alloc, Aggregate::Count, of.get(), setting),
+        Expr::Sum(of) => over_group(alloc, Aggregate::Sum, of.get(), setting),
+        Expr::Min(of) => over_group(alloc, Aggregate::Min, of.get(), setting),
+        Expr::Max(of) => over_group(alloc, Aggregate::Max, of.get(), setting),
     }
 }
 
-/// An aggregate over the rows of the group.
-#[cycle(eval)]
-#[tactic(auto, using(crate::proofs::Readings::readings), unfolding(crate::specs::Meaning::over_at))]
-fn over_group(
-    alloc: Global,
-    op: Aggregate,
-    of: &Expr,
-    setting: &Setting,
-    picks: &Picks,
-    cell: u32,
-) -> Result<Marked, EvalFault>
-    ensures { Sees result (over_at op (setting_of setting.now) picks.now cell of.now) }
-{
-    match setting.group {
-        None => Err(EvalFault::Error(CellError::TypeFault)),
-        Some(rows) => {
-            let operands = operands_over(alloc, of, rows, picks, cell)?;
-            let value = aggregated(alloc, op, operands.values)?;
-            Ok(Marked {
-                value,
-                marked: setting.marked || operands.marked,
-            })
-        }
-    }
-}
-
-/// The values of an expression over each of the rows.
+/// An operator of one operand.
 #[cycle(eval)]
 #[tactic(auto, using(crate::proofs::Readings::readings))]
-fn operands_over(
+#[inline(never)]
+fn unary_of(alloc: Global, op: UnaryOp, of: &Expr, setting: &Setting) -> Result<Marked, EvalFault>
+    ensures { Sees result (made_of setting.now of.now (ops.unary_of op)) }
+{
+    let x = eval_in(alloc, of, setting)?;
+    Ok(Marked {
+        value: unary(alloc, op, &x.value)?,
+        marked: x.marked,
+    })
+}
+
+/// An operator, which looks at the right operand only where the left one doesn't decide.
+#[cycle(eval)]
+#[tactic(auto, using(crate::proofs::Readings::readings))]
+#[inline(never)]
+fn applied(
+    alloc: Global,
+    op: BinaryOp,
+    left: &Expr,
+    right: &Expr,
+    setting: &Setting,
+) -> Result<Marked, EvalFault>
+    ensures { Sees result (operator_gives op setting.now left.now right.now) }
+{
+    let left = eval_in(alloc, left, setting)?;
+    match decided(op, &left.value)? {
+        Some(value) => Ok(Marked {
+            value,
+            marked: left.marked,
+        }),
+        // A literal or a name as the right operand is lent, not written again.
+        None => match right {
+            Expr::Literal(value) => beside(alloc, op, left, value, false),
+            Expr::Column { qualifier, name } => {
+                let binding = meant(setting.row.as_slice(), qualifier, name)?;
+                beside(alloc, op, left, &binding.value.value, binding.value.marked)
+            }
+            _ => {
+                let right = eval_in(alloc, right, setting)?;
+                beside(alloc, op, left, &right.value, right.marked)
+            }
+        },
+    }
+}
+
+/// IS NULL, or IS NOT NULL.
+#[cycle(eval)]
+#[tactic(auto, using(crate::proofs::Readings::readings))]
+#[inline(never)]
+fn null_test_of(
     alloc: Global,
     of: &Expr,
-    rows: &[Bindings],
-    picks: &Picks,
-    cell: u32,
-) -> Result<Operands, EvalFault>
-    ensures { SeesAll result (map (λ r. marked_at (at_row r) picks.now cell of.now) rows.now) }
+    negated: bool,
+    setting: &Setting,
+) -> Result<Marked, EvalFault>
+    ensures { Sees result (made_of setting.now of.now (λ v. Ok (truths.null_test negated v))) }
 {
-    let mut values = ListOf::new(alloc)?;
-    let mut marked = false;
-    for row in rows {
-        let setting = Setting {
-            row,
-            group: None,
-            marked: false,
-        };
-        let value = eval_in(alloc, of, &setting, picks, cell)?;
-        marked |= value.marked;
-        values.push(alloc, value.value)?;
-    }
-    Ok(Operands { values, marked })
+    let x = eval_in(alloc, of, setting)?;
+    Ok(Marked {
+        value: null_test(negated, &x.value),
+        marked: x.marked,
+    })
+}
+
+/// LIKE, or NOT LIKE.
+#[cycle(eval)]
+#[tactic(auto, using(crate::proofs::Readings::readings))]
+#[inline(never)]
+fn is_like(
+    alloc: Global,
+    of: &Expr,
+    pattern: &Expr,
+    negated: bool,
+    setting: &Setting,
+) -> Result<Marked, EvalFault>
+    ensures { Sees result (like_gives setting.now of.now pattern.now negated) }
+{
+    let x = eval_in(alloc, of, setting)?;
+    let y = eval_in(alloc, pattern, setting)?;
+    let holds = like(alloc, &x.value, &y.value)?;
+    Ok(Marked {
+        value: negated_if(negated, holds)?,
+        marked: x.marked || y.marked,
+    })
+}
+
+/// CAST.
+#[cycle(eval)]
+#[tactic(auto, using(crate::proofs::Readings::readings))]
+#[inline(never)]
+fn cast_of(
+    alloc: Global,
+    of: &Expr,
+    kind: ColumnType,
+    setting: &Setting,
+) -> Result<Marked, EvalFault>
+    ensures { Sees result (made_of setting.now of.now (casts.cast kind)) }
+{
+    let x = eval_in(alloc, of, setting)?;
+    Ok(Marked {
+        value: cast(alloc, x.value, kind)?,
+        marked: x.marked,
+    })
+}
+
+/// CAVEAT, which marks the value that was looked at.
+#[cycle(eval)]
+#[tactic(auto, using(crate::proofs::Readings::readings))]
+#[inline(never)]
+fn with_caveat(alloc: Global, of: &Expr, call: u32, setting: &Setting) -> Result<Marked, EvalFault>
+    ensures { Sees result (caveat_gives call setting.now of.now) }
+{
+    let x = eval_in(alloc, of, setting)?;
+    Ok(Marked {
+        value: picked(alloc, setting.picks, setting.cell, call, x.value)?,
+        marked: true,
+    })
+}
+
+/// IN, or NOT IN.
+#[cycle(eval)]
+#[tactic(auto, using(crate::proofs::Readings::readings))]
+#[inline(never)]
+fn one_of(
+    alloc: Global,
+    list: &[Expr],
+    of: &Expr,
+    negated: bool,
+    setting: &Setting,
+) -> Result<Marked, EvalFault>
+    ensures { Sees result (in_gives setting.now of.now list.now negated) }
+{
+    let x = eval_in(alloc, of, setting)?;
+    let holds = any_equal(alloc, &x.value, list, setting)?;
+    Ok(Marked {
+        value: negated_if(negated, holds.value)?,
+        marked: x.marked || holds.marked,
+    })
 }
 
 /// Whether the value equals one of the list, which are looked at until one does.
 #[cycle(eval)]
 #[tactic(auto, using(crate::proofs::Readings::readings))]
+#[inline(never)]
 fn any_equal(
     alloc: Global,
     value: &Value,
     list: &[Expr],
     setting: &Setting,
-    picks: &Picks,
-    cell: u32,
 ) -> Result<Marked, EvalFault>
-    ensures { Sees result (any_equal_marked (unmarked (Ok (Truth false))) value.now (map (marked_at (setting_of setting.now) picks.now cell) list.now)) }
+    ensures { Sees result (equals_one value.now (each_gives setting.now list.now)) }
 {
     let mut found = Marked {
         value: Value::Bool(false),
         marked: false,
     };
     for item in list {
-        found = or_equal(alloc, found, value, item, setting, picks, cell)?;
+        found = or_equal(alloc, found, value, item, setting)?;
     }
     Ok(found)
 }
@@ -293,16 +253,15 @@ fn any_equal(
 /// `found OR value = item`.
 #[cycle(eval)]
 #[tactic(auto, using(crate::proofs::Readings::readings))]
+#[inline(never)]
 fn or_equal(
     alloc: Global,
     found: Marked,
     value: &Value,
     item: &Expr,
     setting: &Setting,
-    picks: &Picks,
-    cell: u32,
 ) -> Result<Marked, EvalFault>
-    ensures { Sees result (or_equal_marked (seen found) value.now (marked_at (setting_of setting.now) picks.now cell item.now)) }
+    ensures { Sees result (or_equal_marked (seen found) value.now (gives setting.now item.now)) }
 {
     match decided(BinaryOp::Or, &found.value)? {
         Some(value) => Ok(Marked {
@@ -310,7 +269,7 @@ fn or_equal(
             marked: found.marked,
         }),
         None => {
-            let y = eval_in(alloc, item, setting, picks, cell)?;
+            let y = eval_in(alloc, item, setting)?;
             let holds = equal(value, &y.value)?;
             Ok(Marked {
                 value: binary(alloc, BinaryOp::Or, found.value, &holds)?,
@@ -320,21 +279,55 @@ fn or_equal(
     }
 }
 
-/// The first value that isn't NULL.
+/// CASE: the answer of the first arm whose condition is TRUE, else the other.
 #[cycle(eval)]
 #[tactic(auto, using(crate::proofs::Readings::readings))]
-fn first_value(
+#[inline(never)]
+fn first_arm(
     alloc: Global,
-    list: &[Expr],
+    arms: &[Arm],
+    otherwise: &Option<Boxed<Expr>>,
     setting: &Setting,
-    picks: &Picks,
-    cell: u32,
 ) -> Result<Marked, EvalFault>
-    ensures { Sees result (first_value_marked (map (marked_at (setting_of setting.now) picks.now cell) list.now)) }
+    ensures { Sees result (case_gives setting.now arms.now otherwise.now) }
+{
+    let mut marked = false;
+    for arm in arms {
+        let test = eval_in(alloc, &arm.condition, setting)?;
+        marked = marked || test.marked;
+        if is_true(&test.value)? {
+            let answer = eval_in(alloc, &arm.answer, setting)?;
+            return Ok(Marked {
+                value: answer.value,
+                marked: marked || answer.marked,
+            });
+        }
+    }
+    match otherwise {
+        None => Ok(Marked {
+            value: Value::Null,
+            marked,
+        }),
+        Some(other) => {
+            let x = eval_in(alloc, other.get(), setting)?;
+            Ok(Marked {
+                value: x.value,
+                marked: marked || x.marked,
+            })
+        }
+    }
+}
+
+/// COALESCE: the first value that isn't NULL.
+#[cycle(eval)]
+#[tactic(auto, using(crate::proofs::Readings::readings))]
+#[inline(never)]
+fn first_value(alloc: Global, list: &[Expr], setting: &Setting) -> Result<Marked, EvalFault>
+    ensures { Sees result (first_value_marked (each_gives setting.now list.now)) }
 {
     let mut marked = false;
     for item in list {
-        let x = eval_in(alloc, item, setting, picks, cell)?;
+        let x = eval_in(alloc, item, setting)?;
         marked = marked || x.marked;
         if !is_null(&x.value) {
             return Ok(Marked {
@@ -347,4 +340,57 @@ fn first_value(
         value: Value::Null,
         marked,
     })
+}
+
+/// An aggregate over the rows of the group.
+#[cycle(eval)]
+#[tactic(auto, using(crate::proofs::Readings::readings), unfolding(crate::specs::Meaning::over_at))]
+#[inline(never)]
+fn over_group(
+    alloc: Global,
+    op: Aggregate,
+    of: &Expr,
+    setting: &Setting,
+) -> Result<Marked, EvalFault>
+    ensures { Sees result (over_gives op setting.now of.now) }
+{
+    match setting.group {
+        None => Err(EvalFault::Error(CellError::TypeFault)),
+        Some(rows) => {
+            let operands = operands_over(alloc, of, rows, setting)?;
+            Ok(Marked {
+                value: aggregated(alloc, op, operands.values)?,
+                marked: setting.marked || operands.marked,
+            })
+        }
+    }
+}
+
+/// The values of an expression over each of the rows.
+#[cycle(eval)]
+#[tactic(auto, using(crate::proofs::Readings::readings))]
+#[inline(never)]
+fn operands_over(
+    alloc: Global,
+    of: &Expr,
+    rows: &[Bindings],
+    setting: &Setting,
+) -> Result<Operands, EvalFault>
+    ensures { SeesAll result (each_row_gives setting.now rows.now of.now) }
+{
+    let mut values = ListOf::new(alloc)?;
+    let mut marked = false;
+    for row in rows {
+        let at_row = Setting {
+            row,
+            group: None,
+            marked: false,
+            picks: setting.picks,
+            cell: setting.cell,
+        };
+        let value = eval_in(alloc, of, &at_row)?;
+        marked |= value.marked;
+        values.push(alloc, value.value)?;
+    }
+    Ok(Operands { values, marked })
 }

@@ -11,7 +11,9 @@ mod caveat;
 mod evaluate;
 mod expr_type;
 mod laws;
+mod marked;
 mod named;
+mod setting;
 #[cfg(test)]
 mod tests;
 mod type_rules;

@@ -1,5 +1,6 @@
 //! Expressions over a row. Expected values are worked out by hand from docs/EXPRESSIONS.md.
-use crate::evaluate::{Setting, eval_in};
+use crate::evaluate::eval_in;
+use crate::setting::Setting;
 use crate::{Binding, Bindings, ExprType, Scope, ScopeColumn, eval, type_of};
 use cell_errors::{CellError, EvalFault};
 use dataset_types::{Choice, Column, Marked, Picks, Site};
@@ -252,13 +253,15 @@ fn counted(alloc: Global, grouped: bool) -> Result<Marked, EvalFault> {
     }
     let sum = sum_of(alloc, column_of("t", "b")?)?;
     let keys = ListOf::new(alloc)?;
+    let picks = Picks::new(alloc)?;
     let setting = Setting {
         row: &keys,
         group: if grouped { Some(rows.as_slice()) } else { None },
         marked: false,
+        picks: &picks,
+        cell: 1,
     };
-    let picks = Picks::new(alloc)?;
-    eval_in(alloc, &sum, &setting, &picks, 1)
+    eval_in(alloc, &sum, &setting)
 }
 
 #[test]

@@ -4,7 +4,7 @@ ghost use Rattle.std.specs.Option.{option_copied};
 ghost use Rattle.cell_errors.specs.Answers.{Gives};
 ghost use Rattle.expr_meaning.specs.Types as spec;
 ghost use Rattle.expr_meaning.specs.declared.expr_type.ExprType.TheVariants as type;
-ghost use Rattle.expr_meaning.specs.Calls.{type_setting};
+ghost use Rattle.expr_meaning.specs.Calls.{case_type, type_setting};
 
 use crate::bindings::Scope;
 use crate::expr_type::ExprType;
@@ -14,8 +14,9 @@ use crate::type_rules::{
     type_of_value, unary_type, where_bool,
 };
 use cell_errors::{CellError, EvalFault};
-use expr_lang::Expr;
+use expr_lang::{Arm, Expr};
 use expr_ops::Aggregate;
+use sqlite_items::Boxed;
 use std::alloc::Global;
 use value_types::{ColumnType, Name};
 
@@ -70,10 +71,7 @@ pub(crate) fn type_in(expr: &Expr, setting: &TypedSetting) -> Result<ExprType, C
     match expr {
         Expr::Literal(value) => Ok(type_of_value(value)),
         Expr::Column { qualifier, name } => column_type(setting.columns, qualifier, name),
-        Expr::Unary(op, of) => {
-            let x = type_in(of.get(), setting)?;
-            unary_type(*op, x)
-        }
+        Expr::Unary(op, of) => unary_type(*op, type_in(of.get(), setting)?),
         Expr::Binary(op, a, b) => {
             let left = type_in(a.get(), setting)?;
             left_type(*op, left)?;
@@ -93,33 +91,41 @@ pub(crate) fn type_in(expr: &Expr, setting: &TypedSetting) -> Result<ExprType, C
             let x = type_in(of.get(), setting)?;
             type_list(x, list.as_slice(), setting)
         }
-        Expr::Case { arms, otherwise } => {
-            let mut sofar = Ok(ExprType::Null);
-            for arm in arms.as_slice() {
-                let condition = type_in(&arm.condition, setting)?;
-                where_bool(ExprType::Of(ColumnType::Bool), condition)?;
-                let answer = type_in(&arm.answer, setting)?;
-                sofar = agree(sofar, answer);
-            }
-            match otherwise {
-                None => agree(sofar, ExprType::Null),
-                Some(other) => {
-                    let other = type_in(other.get(), setting)?;
-                    agree(sofar, other)
-                }
-            }
-        }
+        Expr::Case { arms, otherwise } => type_case(arms.as_slice(), otherwise, setting),
         Expr::Coalesce(list) => type_all(list.as_slice(), setting),
-        Expr::Cast { of, kind } => {
-            let x = type_in(of.get(), setting)?;
-            cast_type(*kind, x)
-        }
+        Expr::Cast { of, kind } => cast_type(*kind, type_in(of.get(), setting)?),
         Expr::Caveat { of, .. } => type_in(of.get(), setting),
         Expr::CountAll => count_type(setting),
         Expr::Count(of) => type_over(Aggregate::Count, of.get(), setting),
         Expr::Sum(of) => type_over(Aggregate::Sum, of.get(), setting),
         Expr::Min(of) => type_over(Aggregate::Min, of.get(), setting),
         Expr::Max(of) => type_over(Aggregate::Max, of.get(), setting),
+    }
+}
+
+/// The conditions of a CASE are looked at as they are typed, its answers once all are typed.
+#[cycle(typing)]
+#[tactic(auto, using(crate::proofs::Typings::typings))]
+fn type_case(
+    arms: &[Arm],
+    otherwise: &Option<Boxed<Expr>>,
+    setting: &TypedSetting,
+) -> Result<ExprType, CellError>
+    ensures { result ≡ case_type setting.now (Ok type.Null) arms.now otherwise.now }
+{
+    let mut sofar = Ok(ExprType::Null);
+    for arm in arms {
+        let condition = type_in(&arm.condition, setting)?;
+        where_bool(ExprType::Of(ColumnType::Bool), condition)?;
+        let answer = type_in(&arm.answer, setting)?;
+        sofar = agree(sofar, answer);
+    }
+    match otherwise {
+        None => agree(sofar, ExprType::Null),
+        Some(other) => {
+            let other = type_in(other.get(), setting)?;
+            agree(sofar, other)
+        }
     }
 }
 

@@ -1,11 +1,11 @@
 -- What an aggregate gives on the values of a group's rows.
-use Rattle.std.specs.Prelude.{ℕ, Bool, true, false, not, Ok, Err, List, [], ◌∷◌, length, filter, ℤ, pos, ◌+ℤ◌}
+use Rattle.std.specs.Prelude.{Bool, true, false, not, Ok, Err, List, [], ◌∷◌, length, filter, ℤ, pos, ◌+ℤ◌}
 use Rattle.std.specs.Ordering.{is_lt}
 use Rattle.value_types.specs.declared.value.Value.{Value}
 use Rattle.value_types.specs.declared.value.Value.TheVariants.{Null, Bool as Truth, Int, Fixed, Text}
 use Rattle.value_types.specs.Order.{value_cmp}
 use Rattle.cell_errors.specs.declared.fault.CellError.TheVariants as error
-use Rattle.cell_errors.specs.Answers.{Answer, and_then}
+use Rattle.cell_errors.specs.Answers.{Answer}
 use Rattle.expr_ops.specs.declared.aggregates.Aggregate.{Aggregate}
 use Rattle.expr_ops.specs.declared.aggregates.Aggregate.TheVariants as aggregate
 use Rattle.expr_ops.specs.Truths.{is_null}

@@ -1,5 +1,5 @@
 -- CAST: a value as one of another type.
-use Rattle.std.specs.Prelude.{Option, Some, None, Ok, Err, List, ℕ, ℤ, pos, int_div}
+use Rattle.std.specs.Prelude.{Option, Some, None, Ok, Err, pos, int_div}
 use Rattle.value_types.specs.Text.{plain}
 use Rattle.value_types.specs.Numbers.{int_of, fixed_of, bool_of}
 use Rattle.value_types.specs.declared.value.ColumnType.{ColumnType}

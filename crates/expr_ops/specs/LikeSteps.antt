@@ -1,5 +1,5 @@
 -- How a pattern is followed: the places of a text that its front can reach.
-use Rattle.std.specs.Prelude.{ℕ, ◌==◌, ◌||◌, ◌&&◌, Bool, true, false, if◌then◌else◌, List, [], ◌∷◌}
+use Rattle.std.specs.Prelude.{ℕ, ◌==◌, ◌||◌, ◌&&◌, Bool, false, if◌then◌else◌, List, [], ◌∷◌}
 
 -- all but the first
 abbrev pub tail : List ℕ → List ℕ

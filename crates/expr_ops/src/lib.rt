@@ -13,6 +13,8 @@ mod ops;
 mod pattern;
 #[cfg(test)]
 mod tests;
+#[cfg(test)]
+mod tests_text;
 mod text;
 mod truth;
 
