@@ -1,0 +1,21 @@
+pub mod TokenTexts
+pub mod Reading
+pub mod Bytes
+pub mod Quotes
+pub mod Numbers
+pub mod Names
+pub mod Characters
+pub mod Giving
+pub mod Chains
+pub mod Parts
+pub mod Following
+pub mod Operators
+pub mod Enclosed
+pub mod Lists
+pub mod Calls
+pub mod Cases
+pub mod Leaves
+pub mod Fine
+pub mod Whole
+pub mod Back
+mod Examples
