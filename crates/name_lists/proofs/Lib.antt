@@ -1,0 +1,2 @@
+pub mod Nubs
+mod Examples

@@ -1,0 +1,4 @@
+-- names, each once
+pub mod Nub
+-- what is true of every list
+pub mod Laws

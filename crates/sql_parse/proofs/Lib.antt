@@ -1,0 +1,4 @@
+pub mod Shapes
+pub mod Built
+pub mod LaterNames
+mod Examples
