@@ -1,0 +1,13 @@
+pub mod Binds
+pub mod Loops
+pub mod Gathered
+pub mod Rules
+pub mod KeptRows
+pub mod ByIds
+pub mod Erasing
+pub mod Sames
+pub mod FromTable
+pub mod TypedOps
+pub mod TypedParts
+pub mod Typed
+pub mod TypeLaw

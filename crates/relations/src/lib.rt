@@ -1,0 +1,27 @@
+//! Relations, on which the steps of SELECT work, and the one loop of these steps.
+//!
+//! Start at `Rel`, whose type keeps the rules and limits of a relation, and at `specs/Batches.antt`: a step over rows is what
+//! it makes of each of them, in order. `specs/Plain.antt` and `specs/Shown.antt` say what a relation is without its marks
+//! and what is shown of it. The steps themselves are not here, but in `rel_ops` and beside it.
+#![tactic(auto)]
+
+mod batch;
+mod bound_row;
+mod condition;
+mod from_table;
+mod into_table;
+mod laws;
+mod limits;
+mod parts;
+mod rel;
+mod step;
+#[cfg(test)]
+mod tests;
+
+pub use batch::Batch;
+pub use bound_row::{bind, bind_more};
+pub use condition::{Test, test_row};
+pub use laws::law_of_types;
+pub use parts::{ColumnRefs, Item, Items, RelParts, SortKey, SortKeys};
+pub use rel::Rel;
+pub use step::{Step, gather};
