@@ -1,0 +1,13 @@
+pub mod Collecting
+pub mod Lists
+pub mod Stable
+pub mod Ranks
+pub mod WhereRows
+pub mod ProjectRules
+pub mod SameLaws
+pub mod FilterLaws
+pub mod ProjectLaws
+pub mod SortLaws
+pub mod LimitLaws
+pub mod UnionLaws
+mod Examples
