@@ -1,0 +1,66 @@
+//! Left rows that have no pair.
+ghost use Rattle.std.specs.Prelude.{◌≡◌, replicate, IfOk};
+ghost use Rattle.rel_join.specs.Join.{alone, by_kind, null_value};
+
+use crate::kind::Kind;
+use dataset_types::{Marked, MarkedValues, Row};
+use relations::Batch;
+use sqlite_items::Boxed;
+use std::alloc::Global;
+use value_types::{NoMemory, RowId, Value};
+
+fn nulls(alloc: Global, count: usize) -> Result<MarkedValues, NoMemory>
+    ensures { IfOk result (λ values. values ≡ replicate count null_value) }
+{
+    let mut values = MarkedValues::new(alloc)?;
+    for i in 0..count {
+        let null = Marked {
+            value: Value::Null,
+            marked: false,
+        };
+        values.push(alloc, null)?;
+    }
+    Ok(values)
+}
+
+fn stand_alone(
+    alloc: Global,
+    width: usize,
+    right_open: bool,
+    marked: bool,
+    left: &Row,
+) -> Result<Row, NoMemory>
+    ensures { IfOk result (λ r. r ≡ alone width right_open marked left.now) }
+{
+    let mut values = left.values.copy(alloc)?;
+    values.append(alloc, nulls(alloc, width)?)?;
+    let id = Boxed::new(alloc, left.id.copy(alloc)?)?;
+    Ok(Row {
+        id: RowId::Alone(id),
+        sure: left.sure & (!right_open & !marked),
+        values,
+    })
+}
+
+/// The pairs that were found of a left row, and for LEFT JOIN the row itself where there are none.
+pub fn finish(
+    alloc: Global,
+    kind: Kind,
+    width: usize,
+    right_open: bool,
+    left: &Row,
+    found: Batch,
+) -> Result<Batch, NoMemory>
+    ensures { IfOk result (λ b. b ≡ by_kind kind width right_open left.now found) }
+{
+    match kind {
+        Kind::Inner => Ok(found),
+        Kind::Outer => {
+            let Batch { mut rows, marked } = found;
+            if rows.len() == 0 {
+                rows.push(alloc, stand_alone(alloc, width, right_open, marked, left)?)?;
+            }
+            Ok(Batch { rows, marked })
+        }
+    }
+}
