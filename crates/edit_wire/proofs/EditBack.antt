@@ -10,7 +10,8 @@ use Rattle.edit_wire.specs.declared.edit.EditCell.{EditCell}
 use Rattle.edit_wire.specs.declared.edit.EditKind.TheVariants as kind
 use Rattle.edit_wire.specs.Cells.{cell_of}
 use Rattle.edit_wire.specs.Values.{name_in}
-use Rattle.edit_wire.specs.Wire.{in_u32, edit_on, edit_in, json_of, edit_of}
+use Rattle.json_glance.specs.Line.{json_of}
+use Rattle.edit_wire.specs.Wire.{in_u32, edit_on, edit_in, edit_of}
 use Rattle.edit_wire.specs.Written.{IsJsonOf}
 
 -- ---- objects of an edit's fields

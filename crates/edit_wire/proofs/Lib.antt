@@ -6,6 +6,7 @@ pub mod Each
 pub mod TableBack
 pub mod Back
 pub mod EditBack
+pub mod EditWords
 pub mod OneLine
 pub mod PlainLines
 pub mod Examples

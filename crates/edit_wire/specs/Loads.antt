@@ -16,6 +16,7 @@ use Rattle.edit_wire.specs.Make.{type_named}
 abbrev pub declared_named : List ℕ → Option (Option ColumnType)
 declared_named s = if bytes_eq s (codes "guess") then Some None else option_map Some (type_named s)
 
+-- the same in JSON
 abbrev pub declared_in : Data → Option (Option ColumnType)
 declared_in d = option_and_then declared_named (as_str d)
 
@@ -23,6 +24,7 @@ declared_in d = option_and_then declared_named (as_str d)
 abbrev pub types_of : Items → Option (List (Option ColumnType))
 types_of ds = option_and_then (λ ts. if nat_le (length ts) 32 then Some ts else None) (all_of declared_in ds)
 
+-- the types of an array
 abbrev pub types_in : Data → Option (List (Option ColumnType))
 types_in d = option_and_then types_of (as_array d)
 
@@ -33,6 +35,7 @@ repair_named s =
     else (if bytes_eq s (codes "zero") then Some repair.Zero
     else None)
 
+-- the same in JSON
 abbrev pub repair_in : Data → Option Repair
 repair_in d = option_and_then repair_named (as_str d)
 
@@ -40,6 +43,7 @@ repair_in d = option_and_then repair_named (as_str d)
 abbrev pub file_named : List ℕ → Option (List ℕ)
 file_named s = if nat_le 1 (length s) && nat_le (length s) 255 then Some s else None
 
+-- the same in JSON
 abbrev pub file_in : Data → Option (List ℕ)
 file_in d = option_and_then file_named (as_str d)
 

@@ -28,6 +28,7 @@ type_named s =
     else (if bytes_eq s (codes "text") then Some kind.Text
     else None)))
 
+-- the same in JSON
 abbrev pub type_in : Data → Option ColumnType
 type_in d = option_and_then type_named (as_str d)
 
@@ -37,6 +38,7 @@ column_from (item a (item b no_items)) =
     option_and_then (λ n. option_map (λ k. record { name = n; kind = k }) (type_in b)) (name_in a)
 column_from _ = None
 
+-- a column is an array of both
 abbrev pub column_in : Data → Option Column
 column_in d = option_and_then column_from (as_array d)
 
@@ -44,6 +46,7 @@ column_in d = option_and_then column_from (as_array d)
 abbrev pub is_heading : List Column → Bool
 is_heading columns = nat_le 1 (length columns) && nat_le (length columns) 32 && names_apart columns
 
+-- the columns of an array, where they are a heading
 abbrev pub heading_of : Items → Option (List Column)
 heading_of ds = option_and_then (λ columns. if is_heading columns then Some columns else None) (all_of column_in ds)
 

@@ -15,7 +15,8 @@ use Rattle.edit_wire.specs.declared.picks.PicksFault.{PicksFault}
 use Rattle.edit_wire.specs.declared.picks.PicksFault.TheVariants as fault
 use Rattle.edit_wire.specs.Json.{with_members, field}
 use Rattle.edit_wire.specs.Values.{value_of}
-use Rattle.edit_wire.specs.Wire.{position_in, json_of}
+use Rattle.json_glance.specs.Line.{json_of}
+use Rattle.edit_wire.specs.Wire.{position_in}
 
 -- a whole number from 1 to 4,294,967,295
 abbrev pub count_in : Data → Option ℕ
@@ -26,15 +27,19 @@ abbrev pub field_site : Data → Option Site
 field_site d =
     option_and_then (λ r. option_map (site.Field r) (field count_in (codes "column") d)) (field count_in (codes "record") d)
 
+-- a surplus record
 abbrev pub record_site : Data → Option Site
 record_site d = option_map site.Record (field count_in (codes "record") d)
 
+-- a call of CAVEAT
 abbrev pub call_site : Data → Option Site
 call_site d = option_map site.Call (field count_in (codes "call") d)
 
+-- the value that is chosen
 abbrev pub value_choice : Data → Option Choice
 value_choice d = option_map choice.Value (field value_of (codes "value") d)
 
+-- whether the record is kept
 abbrev pub keep_choice : Data → Option Choice
 keep_choice d = option_map choice.Keep (field as_bool (codes "keep") d)
 

@@ -28,6 +28,7 @@ IsPlainCell (from.Load name file types repair) = (1 ≤ length file) × (length 
 IsPlainCell (from.Other (cell.Make name table)) = IsPlainTable table
 IsPlainCell (from.Other (cell.Load name bytes types repair)) = ⊥
 
+-- the same of what an edit does
 abbrev pub IsPlainKind : EditKind → Type 0
 IsPlainKind (edit.Append cell) = IsPlainCell cell
 IsPlainKind (edit.Insert at cell) = IsPlainCell cell

@@ -1,11 +1,11 @@
 -- The edit of a line (docs/FORMATS.md, "Edit lines").
-use Rattle.std.specs.Prelude.{ℕ, ◌^◌, List, codes, nat_lt, if◌then◌else◌, Option, Some, None, option_map, option_and_then, ok_or, Result, Err}
-use Rattle.std.specs.Str.{bytes_eq, is_utf8}
+use Rattle.std.specs.Prelude.{ℕ, ◌^◌, ◌||◌, List, Bool, codes, nat_lt, if◌then◌else◌, Option, Some, None, option_map, option_and_then, ok_or, Result, Err}
+use Rattle.std.specs.Str.{bytes_eq}
 use Rattle.serde_json.specs.Data.{Data}
 use Rattle.serde_json.specs.Find.{as_number, as_str, as_u64}
-use Rattle.serde_json.specs.Read.{read}
 use Rattle.cell_model.specs.declared.refusal.EditRefusal.{EditRefusal}
 use Rattle.cell_model.specs.declared.refusal.EditRefusal.TheVariants as refusal
+use Rattle.json_glance.specs.Line.{json_of}
 use Rattle.edit_wire.specs.declared.edit.Edit.{Edit}
 use Rattle.edit_wire.specs.declared.edit.EditCell.{EditCell}
 use Rattle.edit_wire.specs.declared.edit.EditKind.{EditKind}
@@ -24,23 +24,29 @@ position_in d = option_and_then in_u32 (option_and_then as_u64 (as_number d))
 
 -- the fields that an edit has, beside `edit` and `branch`, where it has no others
 
+-- `cell`
 abbrev pub append_of : Data → Option EditKind
 append_of d = with_members 3 d (option_map edit.Append (field cell_of (codes "cell") d))
 
+-- `at` and `cell`
 abbrev pub position_and_cell : Data → Option (ℕ × EditCell)
 position_and_cell d =
     with_members 4 d
     (option_and_then (λ at. option_map (λ cell. (at, cell)) (field cell_of (codes "cell") d)) (field position_in (codes "at") d))
 
+-- those of an insert
 abbrev pub insert_of : Data → Option EditKind
 insert_of d = option_map (λ p. edit.Insert p.0 p.1) (position_and_cell d)
 
+-- those of an update
 abbrev pub update_of : Data → Option EditKind
 update_of d = option_map (λ p. edit.Update p.0 p.1) (position_and_cell d)
 
+-- `at`
 abbrev pub delete_of : Data → Option EditKind
 delete_of d = with_members 3 d (option_map edit.Delete (field position_in (codes "at") d))
 
+-- `from`
 abbrev pub branch_of : Data → Option EditKind
 branch_of d = with_members 3 d (option_map edit.Branch (field position_in (codes "from") d))
 
@@ -54,6 +60,12 @@ kind_named word d =
     else (if bytes_eq word (codes "branch") then branch_of d
     else None))))
 
+-- a word of the field `edit` that asks for something
+abbrev pub is_edit_word : List ℕ → Bool
+is_edit_word word =
+    bytes_eq word (codes "append") || (bytes_eq word (codes "insert") || (bytes_eq word (codes "update") || (bytes_eq word (codes "delete") || bytes_eq word (codes "branch"))))
+
+-- what the field `edit` asks for
 abbrev pub kind_of : Data → Option EditKind
 kind_of d = option_and_then (λ word. kind_named word d) (field as_str (codes "edit") d)
 
@@ -65,10 +77,7 @@ edit_on branch kind = record { branch = branch; kind = kind }
 unfoldable pub edit_in : Data → Option Edit
 edit_in d = option_and_then (λ branch. option_map (edit_on branch) (kind_of d)) (field name_in (codes "branch") d)
 
--- the value that a line is, where it is JSON in UTF-8
-unfoldable pub json_of : List ℕ → Option Data
-json_of line = if is_utf8 line then read line else None
-
+-- the edit of a value, or the refusal of a line without one
 abbrev pub edit_or : Option Data → Result Edit EditRefusal
 edit_or None = Err refusal.BadJson
 edit_or (Some d) = ok_or (edit_in d) refusal.BadEdit

@@ -1,5 +1,5 @@
 //! The edit of a line: its JSON, its branch, and what its word asks for.
-ghost use Rattle.std.specs.Prelude.{◌≡◌, IfOk, option_map};
+ghost use Rattle.std.specs.Prelude.{◌≡◌, IfOk};
 ghost use Rattle.serde_json.specs.View.{view};
 ghost use Rattle.edit_wire.specs.Answers.{Gives};
 ghost use Rattle.edit_wire.specs.Cells as cells;
@@ -12,6 +12,7 @@ use crate::from_json::{FromJson, field, has_members, text_field};
 use crate::load::load_of;
 use crate::make::make_of;
 use cell_model::EditRefusal;
+use json_glance::{Glance, glance_at, json_of};
 use serde_json::Value as Json;
 use std::alloc::Global;
 use value_types::NoMemory;
@@ -145,29 +146,20 @@ fn edit_in(alloc: Global, json: &Json) -> Result<Option<Edit>, NoMemory>
     }
 }
 
-/// The value that a line is, where it is JSON.
-pub fn json_of(alloc: Global, line: &[u8]) -> Result<Option<Json>, NoMemory>
-    ensures { IfOk result (λ found. option_map view found ≡ spec.json_of line.now) }
+/// Whether a word is one of those that edits have.
+fn is_edit_word(word: &[u8]) -> bool
+    ensures { result ≡ spec.is_edit_word word.now }
 {
-    match Json::from_slice(alloc, line) {
-        Ok(json) => Ok(Some(json)),
-        Err(error) => {
-            if error.is_memory() {
-                Err(NoMemory)
-            } else {
-                Ok(None)
-            }
-        }
-    }
+    word == b"append".as_slice()
+        || word == b"insert".as_slice()
+        || word == b"update".as_slice()
+        || word == b"delete".as_slice()
+        || word == b"branch".as_slice()
 }
 
-/// The edit that a line is. Each such edit has a line that `line_of` writes.
-///
-/// - Shape: the line's bytes without its line feed.
-/// - Error: `BadJson` exactly where it is no JSON value, `BadEdit` exactly where the value is no edit.
-/// - Source: docs/FORMATS.md, "Edit lines".
+/// The edit that a line is, read from the value that the line is.
 #[tactic(auto, using(crate::proofs::PlainLines::edit_plain))]
-pub fn edit_of(alloc: Global, line: &[u8]) -> Result<Edit, EditFault>
+fn read_edit(alloc: Global, line: &[u8]) -> Result<Edit, EditFault>
     ensures value { Gives result (spec.edit_of line.now) }
     ensures plain { IfOk result IsPlainEdit }
 {
@@ -177,5 +169,27 @@ pub fn edit_of(alloc: Global, line: &[u8]) -> Result<Edit, EditFault>
     match edit_in(alloc, &json)? {
         Some(edit) => Ok(edit),
         None => Err(EditFault::Refused(EditRefusal::BadEdit)),
+    }
+}
+
+/// The edit that a line is. Each such edit has a line that `line_of` writes.
+///
+/// - Shape: the line's bytes without its line feed.
+/// - Error: `BadJson` exactly where it is no JSON value, `BadEdit` exactly where the value is no edit.
+/// - Source: docs/FORMATS.md, "Edit lines".
+pub fn edit_of(alloc: Global, line: &[u8]) -> Result<Edit, EditFault>
+    ensures value { Gives result (spec.edit_of line.now) }
+    ensures plain { IfOk result IsPlainEdit }
+{
+    match glance_at(alloc, line, "edit")? {
+        Glance::NotJson => Err(EditFault::Refused(EditRefusal::BadJson)),
+        Glance::NoText => Err(EditFault::Refused(EditRefusal::BadEdit)),
+        Glance::Text(word) => {
+            if is_edit_word(word.as_slice()) {
+                read_edit(alloc, line)
+            } else {
+                Err(EditFault::Refused(EditRefusal::BadEdit))
+            }
+        }
     }
 }

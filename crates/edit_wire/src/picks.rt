@@ -6,10 +6,11 @@ ghost use Rattle.edit_wire.specs.Json as fields;
 ghost use Rattle.edit_wire.specs.PicksFile as spec;
 ghost use Rattle.edit_wire.specs.declared.picks.PicksFault.TheVariants.{NoMemory as Starves};
 
-use crate::edit_line::{json_of, position_field};
+use crate::edit_line::position_field;
 use crate::from_json::has_members;
 use crate::value::value_field;
 use dataset_types::{Choice, Pick, Picks, Site};
+use json_glance::json_of;
 use line_reader::{is_blank, split_line};
 use serde_json::Value as Json;
 use std::alloc::Global;

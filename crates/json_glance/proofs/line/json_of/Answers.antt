@@ -3,8 +3,8 @@ use Rattle.std.specs.Str.{is_utf8}
 use Rattle.std.proofs.lemmas.Str.{is_utf8-from_IsUtf8, IsUtf8-from_is_utf8}
 use Rattle.serde_json.specs.Data.{Data}
 use Rattle.serde_json.specs.Read.{read}
-use Rattle.edit_wire.specs.Wire.{json_of}
-use Rattle.edit_wire.proofs.edit_line.json_of.Goals as goal
+use Rattle.json_glance.specs.Line.{json_of}
+use Rattle.json_glance.proofs.line.json_of.Goals as goal
 
 is_read : (line : List ℕ) (d : Data) → IsUtf8 line → read line ≡ Some d → Some d ≡ json_of line
 unfolding json_of
