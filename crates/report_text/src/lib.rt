@@ -16,3 +16,5 @@ pub use block::{write_block, write_refusal, write_starved};
 
 #[cfg(test)]
 mod tests;
+#[cfg(test)]
+mod tests_refusals;

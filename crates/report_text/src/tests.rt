@@ -2,11 +2,9 @@
 ghost use Rattle.std.specs.Prelude.{◌≡◌, IfOk};
 ghost use Rattle.dataset_types.specs.Tables.{Distinct, row_ids};
 
-use crate::{write_block, write_refusal, write_starved};
+use crate::write_block;
 use cell_errors::CellError;
-use cell_model::{
-    Cell, CellKind, CellResult, CellStatus, Cells, EditRefusal, Line, Results, Settled,
-};
+use cell_model::{Cell, CellKind, CellResult, CellStatus, Cells, Line, Results, Settled};
 use dataset_types::{
     Column, Columns, Env, Marked, MarkedValues, Picks, Row, Rows, Slot, Table, all_sure,
     names_distinct, rows_fit,
@@ -25,7 +23,7 @@ enum Field {
     Text(&'static str),
 }
 
-fn name_of(text: &str) -> Result<Name, NoMemory> {
+pub fn name_of(text: &str) -> Result<Name, NoMemory> {
     read_name(text.as_bytes()).ok_or(NoMemory)
 }
 
@@ -160,7 +158,7 @@ fn add_cell(
     settled.results.push(alloc, ArcOf::new(alloc, outcome)?)
 }
 
-fn sink_of(alloc: Global, room: u64, fails: &[u64]) -> Result<MemorySink, NoMemory> {
+pub fn sink_of(alloc: Global, room: u64, fails: &[u64]) -> Result<MemorySink, NoMemory> {
     let mut numbers = Numbers::new(alloc)?;
     for number in fails {
         numbers.push(alloc, *number)?;
@@ -337,41 +335,6 @@ fn each_error_of_a_cell_has_its_name(rt: HostRuntime) -> Result<(), Fail> {
         let want = format!(in rt.alloc(); "version 1 main\ncell 1 #1 error {name}\nend 1\n")?;
         is_block(&rt, rt.alloc(), 1, &settled, want.as_str())?;
     }
-    Ok(())
-}
-
-#[test]
-fn each_refusal_has_its_number_and_name(rt: HostRuntime) -> Result<(), Fail> {
-    for (refusal, want) in [
-        (EditRefusal::BadJson, "line 4 refused E1 BadJson\n"),
-        (EditRefusal::BadEdit, "line 4 refused E2 BadEdit\n"),
-        (EditRefusal::NoBranch, "line 4 refused E3 NoBranch\n"),
-        (EditRefusal::NoVersion, "line 4 refused E4 NoVersion\n"),
-        (EditRefusal::NoCell, "line 4 refused E5 NoCell\n"),
-        (EditRefusal::BranchTaken, "line 4 refused E6 BranchTaken\n"),
-        (EditRefusal::TooMany, "line 4 refused E7 TooMany\n"),
-        (EditRefusal::NoFile, "line 4 refused E8 NoFile\n"),
-        (EditRefusal::FileTooLong, "line 4 refused E9 FileTooLong\n"),
-        (EditRefusal::FileFault, "line 4 refused E10 FileFault\n"),
-        (EditRefusal::LineTooLong, "line 4 refused E11 LineTooLong\n"),
-    ] {
-        let mut sink = sink_of(rt.alloc(), 100, &[])?;
-        assert_eq!(rt; write_refusal(rt.alloc(), &mut sink, 4, refusal), Ok(()));
-        assert_eq!(rt; sink.written(), want.as_bytes(), "wanted {want}");
-    }
-    Ok(())
-}
-
-#[test]
-fn a_starved_block_names_its_cell(rt: HostRuntime) -> Result<(), Fail> {
-    let mut sink = sink_of(rt.alloc(), 100, &[])?;
-    let branch = name_of("main")?;
-    assert_eq!(rt;
-        write_starved(rt.alloc(), &mut sink, 1, &branch, 1, 1),
-        Ok(())
-    );
-    let want = "version 1 main\nstarved cell 1 #1\nend 1\n";
-    assert_eq!(rt; sink.written(), want.as_bytes());
     Ok(())
 }
 

@@ -1,7 +1,6 @@
 -- What a line says, and the report of a stream's lines, each with what the shelf told of its file.
-use Rattle.std.specs.Prelude.{◌≡◌, ◌≤◌, ◌+◌, ◌-◌, ◌^◌, min, ℕ, suc, List, [], ◌∷◌, ◌++◌, map, length, nat_le, if◌then◌else◌, Option, Some, None, Result, Ok, Err, IfSome, unwrap_or, option_map}
+use Rattle.std.specs.Prelude.{◌≡◌, ◌≤◌, ◌+◌, ◌-◌, ◌^◌, min, ℕ, suc, List, [], ◌∷◌, ◌++◌, map, length, nat_le, if◌then◌else◌, Option, Some, None, Result, Ok, Err, unwrap_or, option_map}
 use Rattle.std.specs.List.{slice_get}
-use Rattle.outside_io.specs.Files.{answer_for}
 use Rattle.line_reader.specs.Blanks.{is_blank}
 use Rattle.dataset_types.specs.declared.picks.Pick.{Pick}
 use Rattle.dataset_types.specs.Envs.{empty_env}
@@ -17,7 +16,7 @@ use Rattle.edit_wire.specs.declared.edit.Edit.{Edit}
 use Rattle.edit_wire.specs.Wire.{edit_of}
 use Rattle.version_tree.specs.declared.told.Told.{Told}
 use Rattle.version_tree.specs.declared.told.Told.TheVariants as told
-use Rattle.version_tree.specs.Calls.{file_limit}
+use Rattle.version_tree.specs.Calls.{MayTell}
 use Rattle.version_tree.specs.Notebook.{NotebookData, start, step, asked, after}
 use Rattle.version_tree.specs.Versions.{cells_at, branch_of}
 use Rattle.report_text.specs.Report.{block_text, refusal_text, starved_text}
@@ -83,10 +82,11 @@ asked_said book (Edits edit) = asked book.versions edit
 
 -- ---- the lines of a stream
 
--- the notebook after a line, and the line's part of the report
+-- the notebook after a line
 abbrev pub after_line : NotebookData → List ℕ × Told → NotebookData
 after_line book h = after_said book (said h.0) h.1
 
+-- a line's part of the report
 abbrev pub line_text : NotebookData → ℕ → List ℕ × Told → List ℕ
 line_text book number h = text_said book number (said h.0) h.1
 
@@ -114,16 +114,7 @@ lines_in hs = map (λ h. h.0) hs
 
 -- ---- what the shelf may tell
 
--- nothing where no file is asked for, else that it failed, or what its files give
-abbrev pub MayTell : Option (List (List ℕ × List ℕ)) → Option (List ℕ) → Told → Type 0
-MayTell files None told.NotAsked = Unit {0}
-MayTell files None told.Failed = ⊥
-MayTell files None (told.Got f) = ⊥
-MayTell files (Some name) told.NotAsked = ⊥
-MayTell files (Some name) told.Failed = Unit {0}
-MayTell files (Some name) (told.Got f) = IfSome files (λ fs. f ≡ answer_for fs name file_limit)
-
--- the same of each line, after the lines before it
+-- what it may tell of each line, after the lines before it
 abbrev pub MayTellAll : Option (List (List ℕ × List ℕ)) → NotebookData → List (List ℕ × Told) → Type 0
 MayTellAll files book [] = Unit {0}
 MayTellAll files book (h ∷ hs) = MayTell files (asked_said book (said h.0)) h.1 × MayTellAll files (after_line book h) hs

@@ -11,12 +11,12 @@ use Rattle.line_reader.specs.Cut.{kept_most}
 use Rattle.edit_wire.specs.declared.edit.Edit.{Edit}
 use Rattle.edit_wire.specs.declared.edit.EditFault.TheVariants as fault
 use Rattle.edit_wire.specs.Wire.{edit_of}
-use Rattle.version_tree.specs.Calls.{Takes, Tells}
+use Rattle.version_tree.specs.Calls.{Takes, MayTell, Counts, Tells}
 use Rattle.version_tree.specs.Notebook.{NotebookData, step, asked, after}
 use Rattle.version_tree.specs.declared.told.Told.{Told}
 use Rattle.version_tree.specs.declared.told.Told.TheVariants as told
 use Rattle.line_reader.specs.Blanks.{is_blank}
-use Rattle.report_words.specs.Reports.{said, said_by, branch_at, MayTell, failure, after_said, earned, version_text, IsStarvedAt}
+use Rattle.report_words.specs.Reports.{said, said_by, branch_at, failure, after_said, earned, version_text, IsStarvedAt}
 use Rattle.report_words.specs.declared.said.Said.TheVariants.{Nothing, Refuses, Edits}
 use Rattle.session_core.specs.Earned.{Took, EarnsText, earned_text, is_starved}
 use Rattle.session_core.specs.Books.{IsFront, IsVersion, IsVersionText}
@@ -24,15 +24,11 @@ use Rattle.session_core.specs.declared.earned.Earned.{Earned}
 use Rattle.session_core.specs.declared.earned.Earned.TheVariants as earned
 use Rattle.session_core.proofs.Fronts.{one_more, IsFront-push}
 
--- what was told may be told, and the count rose with it
-may_told : (files : Option (List (List ℕ × List ℕ))) (before now : ℕ) (name : Option (List ℕ)) (t : Told) → Tells files before now name t
-    → MayTell files name t × (min (before + failure t) (2 ^ 64 - 1) ≤ now)
-may_told files before now None told.NotAsked h = (tt, omega (arith, h))
-may_told files before now None told.Failed h = absurd h
-may_told files before now None (told.Got f) h = absurd h
-may_told files before now (Some name) told.NotAsked h = absurd h
-may_told files before now (Some name) told.Failed h = (tt, h)
-may_told files before now (Some name) (told.Got f) h = (h.1, omega (arith, h.0))
+-- the count rises with what was told
+rises : (before now : ℕ) (t : Told) → Counts t before now → min (before + failure t) (2 ^ 64 - 1) ≤ now
+rises before now told.NotAsked h = omega (arith, h)
+rises before now told.Failed h = h
+rises before now (told.Got f) h = omega (arith, h)
 
 -- an accepted edit makes one version
 pub step_grows : (book more : NotebookData) (edit : Edit) (t : Told) → step book edit t ≡ Ok more → length more.versions ≡ suc (length book.versions)
@@ -78,14 +74,12 @@ pub took_made : {E : Type 0} (r : Result Earned E) (files : Option (List (List �
     → Takes (Ok n) files before now book edit more → IfOk r (λ e. IsVersion e more n) → IfOk r (λ e. Took files before now book line (Edits edit) e more)
 took_made (Err e) files before now book more line n edit a v = tt
 took_made (Ok x) files before now book more line n edit (t, tells, e, len) v =
-    let may = may_told files before now (asked book.versions edit) t tells in
-    (t, may.0, may.1, ap (after book) (sym e), made_text (is_starved x) (earned_text line x) book more line n edit t e len (v line))
+    (t, tells.0, rises before now t tells.1, ap (after book) (sym e), made_text (is_starved x) (earned_text line x) book more line n edit t e len (v line))
 
 pub took_refused : (files : Option (List (List ℕ × List ℕ))) (before now : ℕ) (book more : NotebookData) (line : ℕ) (r : EditRefusal) (edit : Edit)
     → Takes (Err (fault.Refused r)) files before now book edit more → Took files before now book line (Edits edit) (earned.Refusal r) more
 took_refused files before now book more line r edit (t, tells, e, same) =
-    let may = may_told files before now (asked book.versions edit) t tells in
-    (t, may.0, may.1, same ∙ ap (after book) (sym e), ap (earned line) (sym e))
+    (t, tells.0, rises before now t tells.1, same ∙ ap (after book) (sym e), ap (earned line) (sym e))
 
 -- ---- what is kept of a line tells what it says
 

@@ -7,8 +7,9 @@ use Rattle.line_reader.specs.Reading.{State, Cuts, Heard, Covers}
 use Rattle.line_reader.proofs.Steps.{heard_of}
 use Rattle.dataset_types.specs.declared.picks.Pick.{Pick}
 use Rattle.version_tree.specs.declared.told.Told.{Told}
+use Rattle.version_tree.specs.Calls.{MayTell}
 use Rattle.version_tree.specs.Notebook.{NotebookData, start as new_book}
-use Rattle.report_words.specs.Reports.{said, after_line, book_from, book_of, report_from, report_of, line_text, text_said, after_said, asked_said, lines_in, MayTell, MayTellAll, failure, failures, WasTold, IsStarvedText}
+use Rattle.report_words.specs.Reports.{said, after_line, book_from, book_of, report_from, report_of, line_text, text_said, after_said, asked_said, lines_in, MayTellAll, failure, failures, WasTold, IsStarvedText}
 use Rattle.report_words.specs.Says.{Says}
 use Rattle.report_words.specs.declared.status.SessionStatus.{SessionStatus}
 use Rattle.report_words.specs.declared.status.SessionStatus.TheVariants as status

@@ -5,9 +5,10 @@ use Rattle.outside_io.specs.Texts.{AppendsFront}
 use Rattle.outside_io.specs.declared.sink.WriteFault.{WriteFault}
 use Rattle.outside_io.specs.declared.sink.WriteFault.TheVariants as fault
 use Rattle.version_tree.specs.declared.told.Told.{Told}
+use Rattle.version_tree.specs.Calls.{MayTell}
 use Rattle.version_tree.specs.Notebook.{NotebookData}
 use Rattle.report_text.specs.Report.{block_text, refusal_text, starved_text}
-use Rattle.report_words.specs.Reports.{MayTell, asked_said, failure, after_said, text_said, IsStarvedText}
+use Rattle.report_words.specs.Reports.{asked_said, failure, after_said, text_said, IsStarvedText}
 use Rattle.report_words.specs.declared.said.Said.{Said}
 use Rattle.report_words.specs.declared.status.SessionStatus.{SessionStatus}
 use Rattle.report_words.specs.declared.status.SessionStatus.TheVariants as status

@@ -163,7 +163,9 @@ impl Book {
     ) -> Result<Earned, NoMemory>
         ensures files { H.files shelf.new ≡ H.files shelf.old }
         ensures later { H.faults shelf.old ≤ H.faults shelf.new }
-        ensures took { IfOk result (λ e. Took (H.files shelf.old) (H.faults shelf.old) (H.faults shelf.new) self.old line (Edits edit.now) e self.new) }
+        ensures took { IfOk result (λ e.
+            Took (H.files shelf.old) (H.faults shelf.old) (H.faults shelf.new)
+            self.old line (Edits edit.now) e self.new) }
         ensures whole { IfOk result (λ e. IsWhole e) }
     {
         match self.notebook.accept(alloc, edit, shelf) {
@@ -182,7 +184,9 @@ impl Book {
     ) -> Result<Earned, NoMemory>
         ensures files { H.files shelf.new ≡ H.files shelf.old }
         ensures later { H.faults shelf.old ≤ H.faults shelf.new }
-        ensures took { IfOk result (λ e. Took (H.files shelf.old) (H.faults shelf.old) (H.faults shelf.new) self.old line said.now e self.new) }
+        ensures took { IfOk result (λ e.
+            Took (H.files shelf.old) (H.faults shelf.old) (H.faults shelf.new)
+            self.old line said.now e self.new) }
         ensures whole { IfOk result (λ e. IsWhole e) }
     {
         match said {
@@ -203,7 +207,9 @@ impl Book {
         ensures files { H.files shelf.new ≡ H.files shelf.old }
         ensures later { H.faults shelf.old ≤ H.faults shelf.new }
         ensures took { (whole : List ℕ) → kept.now ≡ take kept_most whole
-            → IfOk result (λ e. Took (H.files shelf.old) (H.faults shelf.old) (H.faults shelf.new) self.old line (said whole) e self.new) }
+            → IfOk result (λ e.
+            Took (H.files shelf.old) (H.faults shelf.old) (H.faults shelf.new)
+            self.old line (said whole) e self.new) }
         ensures whole { IfOk result (λ e. IsWhole e) }
     {
         let said = read_line(alloc, kept)?;

@@ -50,7 +50,8 @@ pub fn write_earned<K: Sink>(
     requires { IsWhole earned.now }
     ensures text { WritesLine result line earned.now (K.written sink.old) (K.written sink.new) }
     ensures cause { OnOk result (K.faults sink.new ≡ K.faults sink.old) }
-    ensures failed { IfErr result (λ status. Blames status 0 0 (K.faults sink.old) (K.faults sink.new)) }
+    ensures failed { IfErr result (λ status.
+        Blames status 0 0 (K.faults sink.old) (K.faults sink.new)) }
 {
     match earned {
         Earned::Nothing => Ok(()),

@@ -27,13 +27,23 @@ fn turn<S: Source, H: Shelf, K: Sink>(
     sink: &mut K,
 ) -> Result<(), SessionStatus>
     ensures files { H.files shelf.new ≡ H.files shelf.old }
-    ensures stood { (picks : List Pick) (first start : Option (List ℕ)) (count : ℕ) (hs : List (List ℕ × Told))
-        → Stood picks first (S.left source.old) start (K.written sink.old) (H.files shelf.old) count (H.faults shelf.old) lines.old book.old number hs
+    ensures stood { (picks : List Pick) (first start : Option (List ℕ)) (count : ℕ)
+        (hs : List (List ℕ × Told))
+        → Stood picks first (S.left source.old) start (K.written sink.old)
+        (H.files shelf.old) count (H.faults shelf.old) lines.old book.old number hs
         → MatchResult result
-        (λ _. (h : List ℕ × Told) × Stood picks first (S.left source.new) start (K.written sink.new) (H.files shelf.old) count (H.faults shelf.new) lines.new book.new (number + 1) (hs ++ h ∷ []))
-        (λ status. (all : List (List ℕ × Told)) × Says status picks first (S.left source.new) start (K.written sink.new) all × WasTold (H.files shelf.old) count (H.faults shelf.new) picks all) }
-    ensures kept { OnOk result ((S.faults source.new ≡ S.faults source.old) × (K.faults sink.new ≡ K.faults sink.old)) }
-    ensures cause { IfErr result (λ status. Blames status (S.faults source.old) (S.faults source.new) (K.faults sink.old) (K.faults sink.new)) }
+        (λ _. (h : List ℕ × Told)
+        × Stood picks first (S.left source.new) start (K.written sink.new)
+        (H.files shelf.old) count (H.faults shelf.new) lines.new book.new (number + 1)
+        (hs ++ h ∷ []))
+        (λ status. (all : List (List ℕ × Told))
+        × Says status picks first (S.left source.new) start (K.written sink.new) all
+        × WasTold (H.files shelf.old) count (H.faults shelf.new) picks all) }
+    ensures kept { OnOk result
+        ((S.faults source.new ≡ S.faults source.old) × (K.faults sink.new ≡ K.faults sink.old)) }
+    ensures cause { IfErr result (λ status.
+        Blames status (S.faults source.old) (S.faults source.new)
+        (K.faults sink.old) (K.faults sink.new)) }
 {
     match lines.next(alloc, source) {
         Next::Line(kept) => match book.take_line(alloc, number, kept.as_slice(), shelf) {
@@ -45,6 +55,36 @@ fn turn<S: Source, H: Shelf, K: Sink>(
         Next::StreamTooLong => Err(SessionStatus::StreamTooLong),
         Next::NoMemory => Err(SessionStatus::NoMemory),
     }
+}
+
+// The session, whose completeness follows from its report and its causes.
+fn all_lines<S: Source, H: Shelf, K: Sink>(
+    alloc: Global,
+    picks: Picks,
+    source: &mut S,
+    shelf: &mut H,
+    sink: &mut K,
+) -> SessionStatus
+    ensures report { (hs : List (List ℕ × Told))
+        × Says result picks (S.left source.old) (S.left source.new)
+        (K.written sink.old) (K.written sink.new) hs
+        × WasTold (H.files shelf.old) (H.faults shelf.old) (H.faults shelf.new) picks hs }
+    ensures cause { Blames result (S.faults source.old) (S.faults source.new)
+        (K.faults sink.old) (K.faults sink.new) }
+{
+    let Ok(mut lines) = Lines::new(alloc) else {
+        return SessionStatus::NoMemory;
+    };
+    let Ok(mut book) = Book::new(alloc, picks) else {
+        return SessionStatus::NoMemory;
+    };
+    for number in 1..u32::MAX {
+        if let Err(status) = turn(alloc, &mut lines, &mut book, number, source, shelf, sink) {
+            return status;
+        }
+    }
+    // No stream within the limit has so many lines.
+    SessionStatus::NoMemory
 }
 
 /// Reads a stream of edit lines to its end, and writes the report of each line when it is taken.
@@ -60,22 +100,15 @@ pub fn serial_session<S: Source, H: Shelf, K: Sink>(
 ) -> SessionStatus
     // What was taken and written, over the lines that are covered and what the shelf told of them.
     ensures report { (hs : List (List ℕ × Told))
-        × Says result picks (S.left source.old) (S.left source.new) (K.written sink.old) (K.written sink.new) hs
+        × Says result picks (S.left source.old) (S.left source.new)
+        (K.written sink.old) (K.written sink.new) hs
         × WasTold (H.files shelf.old) (H.faults shelf.old) (H.faults shelf.new) picks hs }
     // Whose fault it was.
-    ensures cause { Blames result (S.faults source.old) (S.faults source.new) (K.faults sink.old) (K.faults sink.new) }
+    ensures cause { Blames result (S.faults source.old) (S.faults source.new)
+        (K.faults sink.old) (K.faults sink.new) }
+    // Without a fault, and within the limit, it is done, or memory was wanting.
+    ensures complete { Completes result (S.left source.old) (S.faults source.old)
+        (S.faults source.new) (K.faults sink.old) (K.faults sink.new) }
 {
-    let Ok(mut lines) = Lines::new(alloc) else {
-        return SessionStatus::NoMemory;
-    };
-    let Ok(mut book) = Book::new(alloc, picks) else {
-        return SessionStatus::NoMemory;
-    };
-    for number in 1..u32::MAX {
-        if let Err(status) = turn(alloc, &mut lines, &mut book, number, source, shelf, sink) {
-            return status;
-        }
-    }
-    // No stream within the limit has so many lines.
-    SessionStatus::NoMemory
+    all_lines(alloc, picks, source, shelf, sink)
 }

@@ -89,7 +89,7 @@ pub refused : (e : EditFault) (files : Option (List (List ℕ × List ℕ))) (n 
 refused fault.NoMemory files n book edit f = refl
 refused (fault.Refused r) files n book edit f = (
   told.NotAsked,
-  subst (λ a. Tells files n n a told.NotAsked) (sym (asked_none (plan_of book.versions edit) r _ f)) refl,
+  subst (λ a. Tells files n n a told.NotAsked) (sym (asked_none (plan_of book.versions edit) r _ f)) (tt, refl),
   ap (on_ok (λ place. on_ok (λ new. Ok (edited book edit place new)) (new_cells (length book.versions + 1) book.picks edit.kind told.NotAsked))) f,
   refl,
 )

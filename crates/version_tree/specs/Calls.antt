@@ -14,14 +14,24 @@ use Rattle.version_tree.specs.declared.told.Told.TheVariants as told
 abbrev pub file_limit : ℕ
 file_limit = 1048576
 
+-- what the shelf may tell: nothing where no file is asked for, else that it failed, or what its files give
+abbrev pub MayTell : Option (List (List ℕ × List ℕ)) → Option (List ℕ) → Told → Type 0
+MayTell files None told.NotAsked = Unit {0}
+MayTell files None told.Failed = ⊥
+MayTell files None (told.Got f) = ⊥
+MayTell files (Some name) told.NotAsked = ⊥
+MayTell files (Some name) told.Failed = Unit {0}
+MayTell files (Some name) (told.Got f) = IfSome files (λ fs. f ≡ answer_for fs name file_limit)
+
+-- its count of faults rises where it fails, and else stays
+abbrev pub Counts : Told → ℕ → ℕ → Type 0
+Counts told.NotAsked before now = now ≡ before
+Counts told.Failed before now = Rose before now
+Counts (told.Got f) before now = now ≡ before
+
 -- what the shelf tells that is asked for a file, or for none, and what that does to its count of faults
 abbrev pub Tells : Option (List (List ℕ × List ℕ)) → ℕ → ℕ → Option (List ℕ) → Told → Type 0
-Tells files before now None told.NotAsked = now ≡ before
-Tells files before now None told.Failed = ⊥
-Tells files before now None (told.Got f) = ⊥
-Tells files before now (Some name) told.NotAsked = ⊥
-Tells files before now (Some name) told.Failed = Rose before now
-Tells files before now (Some name) (told.Got f) = (now ≡ before) × IfSome files (λ fs. f ≡ answer_for fs name file_limit)
+Tells files before now name t = MayTell files name t × Counts t before now
 
 -- the notebook after the answer of an edit of which the shelf told this
 abbrev pub Accepts : Result ℕ EditFault → NotebookData → Edit → Told → NotebookData → Type 0

@@ -43,7 +43,8 @@ impl Model for Notebook {
 
     ghost view = { λ n. record { picks = n.picks; versions = n.versions.items } };
 
-    ghost invariant = { λ n. Small n.versions.items n.prefixes × Shares n.versions.items n.base n.front };
+    ghost invariant = { λ n.
+        Small n.versions.items n.prefixes × Shares n.versions.items n.base n.front };
 }
 
 /// Where an edit goes, and how many distinct prefixes its version adds.

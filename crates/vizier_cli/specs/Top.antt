@@ -6,8 +6,9 @@ use Rattle.dataset_types.specs.declared.picks.Pick.{Pick}
 use Rattle.version_tree.specs.Calls.{Tells}
 use Rattle.version_tree.specs.declared.told.Told.{Told}
 use Rattle.report_words.specs.Reports.{WasTold}
-use Rattle.report_words.specs.Says.{Says}
+use Rattle.report_words.specs.Says.{Says, Blames}
 use Rattle.report_words.specs.declared.status.SessionStatus.{SessionStatus}
+use Rattle.report_words.specs.declared.status.SessionStatus.TheVariants as session
 use Rattle.vizier_cli.specs.Opening.{opened, CanOpen}
 use Rattle.vizier_cli.specs.Statuses.{status_of}
 use Rattle.vizier_cli.specs.declared.status.Status.{Status}
@@ -45,16 +46,20 @@ Reports result file first left start written files before now =
     Ended result file files before now
     ⊎ (Ran result file first left start written files before now ⊎ Starved result first left start written)
 
--- Whose count of faults rose, that of the source or that of the sink. The other count stays; of the sink's, want of memory says nothing.
+-- the end of a session with the same blame: before the stream was read neither source nor sink had failed
+abbrev pub blamed : Status → SessionStatus
+blamed status.Done = session.Done
+blamed status.BadWords = session.Done
+blamed status.ReadFault = session.ReadFault
+blamed status.WriteFault = session.WriteFault
+blamed status.NoMemory = session.NoMemory
+blamed (status.BadPicks line) = session.Done
+blamed status.StreamTooLong = session.StreamTooLong
+blamed status.PicksFault = session.Done
+
+-- whose count of faults rose, that of the source or that of the sink
 abbrev pub Causes : Status → ℕ → ℕ → ℕ → ℕ → Type 0
-Causes status.Done source source' sink sink' = (source' ≡ source) × (sink' ≡ sink)
-Causes status.BadWords source source' sink sink' = (source' ≡ source) × (sink' ≡ sink)
-Causes status.ReadFault source source' sink sink' = Rose source source' × (sink' ≡ sink)
-Causes status.WriteFault source source' sink sink' = (source' ≡ source) × Rose sink sink'
-Causes status.NoMemory source source' sink sink' = source' ≡ source
-Causes (status.BadPicks line) source source' sink sink' = (source' ≡ source) × (sink' ≡ sink)
-Causes status.StreamTooLong source source' sink sink' = (source' ≡ source) × (sink' ≡ sink)
-Causes status.PicksFault source source' sink sink' = (source' ≡ source) × (sink' ≡ sink)
+Causes s source source' sink sink' = Blames (blamed s) source source' sink sink'
 
 -- the whole report was written, or memory was wanting, or the shelf failed at the picks
 abbrev pub IsComplete : Status → Type 0

@@ -1,7 +1,7 @@
 use Rattle.std.proofs.Common.{◌≡◌, ℕ, List}
 use Rattle.version_tree.specs.declared.told.Told.{Told}
 use Rattle.session_core.specs.Turns.{Stood}
-use Rattle.session_core.proofs.session.serial_session.Given as goal
+use Rattle.session_core.proofs.session.all_lines.Given as goal
 
 abbrev pub invariant-loop-number : goal.invariant-loop-number
 invariant-loop-number g l =
