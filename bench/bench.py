@@ -131,6 +131,24 @@ def no_edits():
         yield line
 
 
+def lines_of(shape):
+    """Lines of one shape that are JSON but no edits, about 4 MB."""
+    numbers, left = random.Random(2), 4 * MB
+    while left > 0:
+        if shape == "short objects":
+            line = '{"edit":"note","at":%d}' % numbers.randrange(1000)
+        elif shape == "whole numbers":
+            line = "[%s]" % ",".join("%d" % numbers.randrange(10**6) for _ in range(400))
+        elif shape == "numbers with points":
+            line = "[%s]" % ",".join("%.6f" % numbers.uniform(-180, 180) for _ in range(250))
+        elif shape == "a plain text":
+            line = '{"edit":"note","text":"%s"}' % ("a plain text of many words " * 100)
+        else:
+            line = '{"edit":"note","text":"%s"}' % (r"a\n\u00e9\"b " * 200)
+        left -= len(line) + 1
+        yield line
+
+
 def make_cell(name, rows):
     return '{"make":"%s","columns":[["n","int"],["t","text"]],"rows":[%s]}' % (name, ",".join(rows))
 
@@ -191,6 +209,17 @@ def measure_lines(command, folder):
     print(f"  ratio of times, program to json.loads: {ours.seconds / python.seconds:.2f}")
 
 
+def measure_shapes(command, folder):
+    stream, output = os.path.join(folder, "stream"), os.path.join(folder, "output")
+    print("lines of other shapes that are no edit, about 4 MB of each")
+    for shape in ("short objects", "whole numbers", "numbers with points", "a plain text", "a text of escapes"):
+        _, size = write_lines(stream, lines_of(shape))
+        ours = best(9, lambda: to_file(command, stream, output))
+        python = best(5, lambda: json_loads(stream))
+        print(f"  {shape:20} program {1000 * ours.seconds:7.1f} ms  {size / MB / ours.seconds:6.0f} MB/s; "
+              f"json.loads {1000 * python.seconds:7.1f} ms; ratio {ours.seconds / python.seconds:.2f}")
+
+
 def measure_report(command, folder):
     stream, output = os.path.join(folder, "stream"), os.path.join(folder, "output")
     count, size = write_lines(stream, long_report())
@@ -247,7 +276,7 @@ def main(words):
         return 2
     command = [os.path.abspath(word) if os.path.exists(word) else word for word in words] + ["serial"]
     room = "/dev/shm" if os.path.isdir("/dev/shm") else None
-    for measure in (measure_lines, measure_report, measure_versions, measure_loads):
+    for measure in (measure_lines, measure_shapes, measure_report, measure_versions, measure_loads):
         with tempfile.TemporaryDirectory(dir=room) as folder:
             measure(command, folder)
     return 0
