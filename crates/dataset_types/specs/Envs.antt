@@ -18,6 +18,7 @@ pub record EnvData : Type 0 where
 abbrev pub name_cmp : List ℕ → List ℕ → Ordering
 name_cmp = slice_cmp nat_cmp
 
+-- the names of these slots
 abbrev pub names_of : List Named → List (List ℕ)
 names_of slots = map (λ e. e.name) slots
 
@@ -25,9 +26,11 @@ names_of slots = map (λ e. e.name) slots
 abbrev pub IsInOrder : List Named → Type 0
 IsInOrder slots = IsStrictlySortedBy name_cmp (names_of slots)
 
+-- no names, and no doubt of the others
 abbrev pub empty_env : EnvData
 empty_env = record { slots = []; blurred = false }
 
+-- the slot where there is one, else the other
 abbrev pub or_else : Option Slot → Slot → Slot
 or_else None other = other
 or_else (Some slot) other = slot

@@ -9,10 +9,12 @@ use Rattle.dataset_types.specs.declared.row.Row.{Row}
 use Rattle.dataset_types.specs.Tables.{TableData, text_size}
 use Rattle.dataset_types.specs.Envs.{EnvData, look}
 
+-- a row without marks
 pub record PlainRow : Type 0 where
   pub id : RowId
   pub values : List Value
 
+-- a table without marks and flags
 pub record PlainTable : Type 0 where
   pub columns : List Column
   pub rows : List PlainRow

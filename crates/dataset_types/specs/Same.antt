@@ -14,6 +14,7 @@ use Rattle.dataset_types.specs.declared.row.Marked.{Marked}
 use Rattle.dataset_types.specs.declared.row.Row.{Row}
 use Rattle.dataset_types.specs.Tables.{TableData}
 
+-- the same name and type
 abbrev pub same_column : Column → Column → Bool
 same_column a b = bytes_eq a.name b.name && same_type a.kind b.kind
 
@@ -21,9 +22,11 @@ same_column a b = bytes_eq a.name b.name && same_type a.kind b.kind
 abbrev pub same_marked : Marked → Marked → Bool
 same_marked a b = same_value a.value b.value && beq a.marked b.marked
 
+-- the same id and values, sure both or neither
 abbrev pub same_row : Row → Row → Bool
 same_row a b = same_id a.id b.id && (beq a.sure b.sure && pointwise same_marked a.values b.values)
 
+-- the same columns, rows and flags
 abbrev pub same_table : TableData → TableData → Bool
 same_table a b =
     pointwise same_column a.columns b.columns

@@ -57,6 +57,7 @@ row_size row = length (id row.id) + sum_by (λ m. text_size m.value) row.values
 abbrev pub text_bytes : List Row → ℕ
 text_bytes rows = sum_by row_size rows
 
+-- the names of these columns
 abbrev pub column_names : List Column → List (List ℕ)
 column_names columns = map (λ c. c.name) columns
 
@@ -69,6 +70,7 @@ abbrev pub names_apart : List Column → Bool
 names_apart [] = true
 names_apart (c ∷ cs) = not (is_named c.name cs) && names_apart cs
 
+-- the ids of these rows
 abbrev pub row_ids : List Row → List RowId
 row_ids rows = map (λ r. r.id) rows
 

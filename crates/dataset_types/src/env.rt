@@ -80,7 +80,8 @@ impl Env {
     /// The name has this slot.
     #[tactic(auto, using(crate::proofs::EnvLemmas::in_order_set))]
     pub fn set(&mut self, alloc: Global, name: Name, slot: Slot) -> Result<(), NoMemory>
-        ensures ok { OnOk result (self.new ≡ set_name self.old (record { name = name; slot = slot })) }
+        ensures ok { OnOk result
+            (self.new ≡ set_name self.old (record { name = name; slot = slot })) }
         ensures err { OnErr result (self.new ≡ self.old) }
     {
         self.slots = with_slot(alloc, self.slots.as_slice(), Named { name, slot })?;

@@ -16,19 +16,23 @@ class (Int n) = 2
 class (Fixed n) = 3
 class (Text t) = 4
 
+-- the truth of a Bool, else false
 abbrev pub truth_in : Value → Bool
 truth_in (Truth b) = b
 truth_in _ = false
 
+-- the whole number that an Int is or a Fixed counts in, else 0
 abbrev pub number_in : Value → ℤ
 number_in (Int n) = n
 number_in (Fixed n) = n
 number_in _ = pos 0
 
+-- the bytes of a Text, else none
 abbrev pub text_in : Value → List ℕ
 text_in (Text t) = t
 text_in _ = []
 
+-- by type, then false before true, by number, Texts by their bytes
 abbrev pub value_cmp : Value → Value → Ordering
 value_cmp = then_cmp (on class nat_cmp) (then_cmp (on truth_in bool_cmp) (then_cmp (on number_in int_cmp) (on text_in (slice_cmp nat_cmp))))
 

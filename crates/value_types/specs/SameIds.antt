@@ -28,12 +28,15 @@ same_form a b = false
 unfoldable pub same_id : RowId → RowId → Bool
 same_id = fold-RowId (RowId → Bool) (λ layer other. same_form layer (out-RowId other))
 
+-- an id for which the test decides equality
 abbrev Sound : Type 0
 Sound = (a : RowId) × ((b : RowId) → Decides (same_id a b) (a ≡ b))
 
+-- the ids alone
 abbrev bare : RowId-F Sound → RowId-F RowId
 bare = map-RowId Sound RowId (λ e. e.0)
 
+-- the test of each inner id
 abbrev tested : RowId-F RowId → RowId-F (RowId → Bool)
 tested = map-RowId RowId (RowId → Bool) same_id
 

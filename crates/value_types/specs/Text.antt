@@ -10,19 +10,24 @@ use Rattle.value_types.specs.declared.row_id.RowId.{RowId}
 use Rattle.value_types.specs.declared.row_id.RowId.TheOpen.{RowId-F}
 use Rattle.value_types.specs.declared.row_id.RowId.TheFolds.{fold-RowId}
 
+-- the character of a digit
 abbrev pub digit : ℕ → ℕ
 digit d = 48 + d
 
+-- a number below 10,000 as four digits
 abbrev pub four_digits : ℕ → List ℕ
 four_digits n = digit (n / 1000) ∷ digit (n / 100 % 10) ∷ digit (n / 10 % 10) ∷ digit (n % 10) ∷ []
 
+-- ten-thousandths as a number with four digits after its point
 abbrev pub magnitude_text : ℕ → List ℕ
 magnitude_text n = decimal (n / 10000) ++ 46 ∷ four_digits (n % 10000)
 
+-- a Fixed, which counts ten-thousandths, as a number
 abbrev pub fixed_text : ℤ → List ℕ
 fixed_text (pos n) = magnitude_text n
 fixed_text (negsuc n) = 45 ∷ magnitude_text (suc n)
 
+-- the character of a digit of base 16
 abbrev pub hex_digit : ℕ → ℕ
 hex_digit d = if nat_lt d 10 then 48 + d else 87 + d
 
@@ -49,6 +54,7 @@ quoted t = 34 ∷ (inner t ++ 34 ∷ [])
 abbrev pub is_plain : ℕ → Bool
 is_plain b = nat_le 32 b && not (b == 34) && not (b == 92)
 
+-- the text by which a value is printed
 abbrev pub literal : Value → List ℕ
 literal Null = codes "null"
 literal (Truth true) = codes "true"
@@ -70,10 +76,12 @@ abbrev pub after_commas : List Value → List ℕ
 after_commas [] = []
 after_commas (v ∷ vs) = 44 ∷ (literal v ++ after_commas vs)
 
+-- the texts of these values, a comma between two
 abbrev pub with_commas : List Value → List ℕ
 with_commas [] = []
 with_commas (v ∷ vs) = literal v ++ after_commas vs
 
+-- the text of a row id whose inner ids have these texts
 abbrev pub id_form : RowId-F (List ℕ) → List ℕ
 id_form (RowId-F.Rec n) = 35 ∷ decimal n
 id_form (RowId-F.Named n) = 64 ∷ n
@@ -84,6 +92,7 @@ id_form (RowId-F.First i) = 60 ∷ i
 id_form (RowId-F.Second i) = 62 ∷ i
 id_form (RowId-F.Key values) = 91 ∷ (with_commas values ++ 93 ∷ [])
 
+-- the text of a row id
 unfoldable pub id : RowId → List ℕ
 id = fold-RowId (List ℕ) id_form
 
