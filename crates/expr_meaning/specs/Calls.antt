@@ -2,6 +2,7 @@
 use Rattle.std.specs.Prelude.{ℕ, Bool, List, map, Option, option_map}
 use Rattle.std.specs.Option.{option_copied}
 use Rattle.value_types.specs.declared.value.Value.{Value}
+use Rattle.dataset_types.specs.declared.row.Marked.{Marked}
 use Rattle.cell_errors.specs.Seen.{Seen, seen_then, unmarked}
 use Rattle.expr_lang.specs.declared.ops.BinaryOp.{BinaryOp}
 use Rattle.expr_lang.specs.declared.expr.Expr.{Expr}
@@ -11,7 +12,7 @@ use Rattle.expr_meaning.specs.declared.bindings.Binding.{Binding}
 use Rattle.expr_meaning.specs.declared.setting.Setting.{Setting}
 use Rattle.expr_meaning.specs.declared.typing.TypedSetting.{TypedSetting}
 use Rattle.expr_meaning.specs.Meaning.{caveat_marked, marked_at, over_at}
-use Rattle.expr_meaning.specs.Sees.{setting_of}
+use Rattle.expr_meaning.specs.Sees.{seen, setting_of}
 use Rattle.expr_meaning.specs.Settings.{at_row}
 use Rattle.expr_meaning.specs.Steps.{applied_marked, arm_at, first_arm_marked, like_marked, one_of_marked, otherwise_at}
 use Rattle.expr_meaning.specs.declared.expr_type.ExprType.{ExprType}
@@ -29,6 +30,10 @@ made_of p e f = seen_then (gives p e) (λ v. unmarked (f v))
 -- what an operator of two operands gives
 abbrev pub operator_gives : BinaryOp → Setting → Expr → Expr → Seen Value
 operator_gives op p a b = applied_marked op (gives p a) (gives p b)
+
+-- what it gives once its left operand was looked at
+abbrev pub rest_gives : BinaryOp → Marked → Setting → Expr → Seen Value
+rest_gives op m p b = applied_marked op (seen m) (gives p b)
 
 -- what LIKE, or NOT LIKE, gives
 abbrev pub like_gives : Setting → Expr → Expr → Bool → Seen Value

@@ -72,6 +72,7 @@ module _ (V : Type 0) (◌>>=◌ : V → (Value → V) → V) (give : Answer Val
 
   -- `find` gives what a name stands for, `caveat` what a CAVEAT makes of its operand, `count` is COUNT(*) and `over` an aggregate
   module _ (find : Option (List ℕ) → List ℕ → V) (caveat : ℕ → V → V) (count : V) (over : Aggregate → V → V) where
+    -- what an expression of each form gives, from what its parts give
     abbrev pub form : Expr-F V (V × V) → V
     form (Expr-F.Literal v) = give (Ok v)
     form (Expr-F.Column qualifier name) = find qualifier name

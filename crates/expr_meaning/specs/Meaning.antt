@@ -19,14 +19,17 @@ use Rattle.expr_meaning.specs.Known.{Known, known_then}
 use Rattle.expr_meaning.specs.Settings.{PlainBinding, KnownBinding, PlainSetting, MarkedSetting, KnownSetting, at_row, at_plain_row, at_known_row}
 use Rattle.expr_meaning.specs.Forms.{form, all_then}
 
+-- an arm of a CASE: what its condition gives, and what its answer gives
 abbrev pub arm_of : (A : Type 0) → Arm-F A (A × A) → A × A
 arm_of A a = (a.condition, a.answer)
 
 -- ---- without marks
 
+-- what an expression gives in each setting, without marks
 abbrev pub Plain : Type 0
 Plain = PlainSetting → Answer Value
 
+-- a look at the first, and then at the next, from the value of the first
 abbrev pub plain_then : Plain → (Value → Plain) → Plain
 plain_then x f = λ s. and_then (x s) (λ v. f v s)
 
@@ -48,6 +51,7 @@ abbrev pub over_plain : Aggregate → Plain → Option (List (List PlainBinding)
 over_plain op x None = Err error.TypeFault
 over_plain op x (Some rows) = all_then (Answer Value) and_then (λ a. a) (map (λ r. x (at_plain_row r)) rows) [] (aggregate_of op)
 
+-- what each form gives without marks
 abbrev pub plain_form : List Pick → ℕ → Expr-F Plain (Plain × Plain) → Plain
 plain_form picks cell = form Plain plain_then (λ a s. a) (λ q name s. find_plain s.row q name)
     (λ call x s. caveat_plain picks cell call (x s)) (λ s. count_plain s.group) (λ op x s. over_plain op x s.group)
@@ -58,9 +62,11 @@ plain_meaning picks cell = fold-Expr Plain (Plain × Plain) (plain_form picks ce
 
 -- ---- with marks
 
+-- what an expression gives in each setting, with marks
 abbrev pub Reading : Type 0
 Reading = MarkedSetting → Seen Value
 
+-- a look at the first, and then at the next, from the value of the first
 abbrev pub read_then : Reading → (Value → Reading) → Reading
 read_then x f = λ s. seen_then (x s) (λ v. f v s)
 
@@ -69,9 +75,11 @@ abbrev pub seen_of : Answer Binding → Seen Value
 seen_of (Ok b) = record { marked = b.value.marked; answer = Ok b.value.value }
 seen_of (Err e) = record { marked = false; answer = Err e }
 
+-- the binding that a name stands for
 abbrev pub find : List Binding → Option Name → Name → Answer Binding
 find row q name = meant (λ b. b.qualifier) (λ b. b.name) q name row
 
+-- what a name stands for, with its mark
 abbrev pub find_marked : List Binding → Option Name → Name → Seen Value
 find_marked row q name = seen_of (find row q name)
 
@@ -84,13 +92,16 @@ abbrev pub mark_of : {A : Type 0} → Option (List A) → Bool → Bool
 mark_of None m = false
 mark_of (Some rows) m = m
 
+-- COUNT(*), with the mark of the group
 abbrev pub count_marked : {A : Type 0} → Option (List A) → Bool → Seen Value
 count_marked group m = record { marked = mark_of group m; answer = count_plain group }
 
+-- an aggregate, with the mark of the group and those of its operand in each row
 abbrev pub over_marked : Aggregate → Reading → Option (List (List Binding)) → Bool → Seen Value
 over_marked op x None m = unmarked (Err error.TypeFault)
 over_marked op x (Some rows) m = after m (all_then (Seen Value) seen_then unmarked (map (λ r. x (at_row r)) rows) [] (aggregate_of op))
 
+-- what each form gives with marks
 abbrev pub marked_form : List Pick → ℕ → Expr-F Reading (Reading × Reading) → Reading
 marked_form picks cell = form Reading read_then (λ a s. unmarked a) (λ q name s. find_marked s.row q name)
     (λ call x s. caveat_marked picks cell call (x s)) (λ s. count_marked s.group s.marked) (λ op x s. over_marked op x s.group s.marked)
@@ -109,9 +120,11 @@ over_at op s picks cell e = over_marked op (λ r. marked_at r picks cell e) s.gr
 
 -- ---- over what is known
 
+-- what is known of an expression in each setting
 abbrev pub KnownReading : Type 0
 KnownReading = KnownSetting → Known Value
 
+-- a look at the first, and then at the next, from the value of the first
 abbrev pub known_read_then : KnownReading → (Value → KnownReading) → KnownReading
 known_read_then x f = λ s. known_then (x s) (λ v. f v s)
 
@@ -120,6 +133,7 @@ abbrev pub known_of : Answer KnownBinding → Known Value
 known_of (Ok b) = option_map (λ v. Ok v) b.value
 known_of (Err e) = Some (Err e)
 
+-- what is known of what a name stands for
 abbrev pub find_known : List KnownBinding → Option Name → Name → Known Value
 find_known row q name = known_of (meant (λ b. b.qualifier) (λ b. b.name) q name row)
 
@@ -127,11 +141,13 @@ find_known row q name = known_of (meant (λ b. b.qualifier) (λ b. b.name) q nam
 abbrev pub caveat_known : Known Value → Known Value
 caveat_known x = known_then x (λ v. None)
 
+-- what is known of COUNT(*), which stands in groups alone
 abbrev pub count_known : {A : Type 0} → Option (Option (List A)) → Known Value
 count_known None = Some (Err error.TypeFault)
 count_known (Some None) = None
 count_known (Some (Some rows)) = Some (Ok (Int (pos (length rows))))
 
+-- what is known of an aggregate of what is known of its operand in each row
 abbrev pub over_known : Aggregate → KnownReading → Option (Option (List (List KnownBinding))) → Known Value
 over_known op x None = Some (Err error.TypeFault)
 over_known op x (Some None) = None
@@ -145,11 +161,14 @@ known_meaning = fold-Expr KnownReading (KnownReading × KnownReading)
 
 -- ---- over a row alone
 
+-- what an expression gives over a row, without marks
 abbrev pub plain_over_row : List PlainBinding → List Pick → ℕ → Expr → Answer Value
 plain_over_row row picks cell e = plain_meaning picks cell e (at_plain_row row)
 
+-- what an expression gives over a row, with marks
 abbrev pub marked_over_row : List Binding → List Pick → ℕ → Expr → Seen Value
 marked_over_row row = marked_at (at_row row)
 
+-- what is known of an expression over a row
 abbrev pub known_over_row : List KnownBinding → Expr → Known Value
 known_over_row row e = known_meaning e (at_known_row row)

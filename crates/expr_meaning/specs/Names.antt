@@ -4,6 +4,7 @@ use Rattle.std.specs.Str.{bytes_eq}
 use Rattle.cell_errors.specs.declared.fault.CellError.TheVariants as error
 use Rattle.cell_errors.specs.Answers.{Answer, and_then}
 
+-- the bytes of a name
 abbrev pub Name : Type 0
 Name = List ℕ
 
@@ -30,10 +31,12 @@ module _ {X : Type 0} (q : X → Option Name) (n : X → Name) where
   abbrev pub matching : Bool → Option Name → Name → List X → Answer (Option X)
   matching free written name xs = at_most_one (filter (λ x. is_match free written name (q x) (n x)) xs)
 
+  -- that one, or an error where there is none
   abbrev pub or_no_column : Option X → Answer X
   or_no_column None = Err error.NoColumn
   or_no_column (Some x) = Ok x
 
+  -- that one, or where there is none the only one of that name with any qualifier
   abbrev pub or_any : Name → List X → Option X → Answer X
   or_any name xs None = and_then (matching false None name xs) or_no_column
   or_any name xs (Some x) = Ok x

@@ -1,5 +1,5 @@
 -- What an evaluation may answer: what is seen, or want of memory, which is free.
-use Rattle.std.specs.Prelude.{◌≡◌, Result, Ok, Err, Option, List, []}
+use Rattle.std.specs.Prelude.{◌≡◌, Bool, Result, Ok, Err, Option, List, []}
 use Rattle.std.specs.Option.{option_copied}
 use denote.Ref.{Bor}
 use Rattle.value_types.specs.declared.value.Value.{Value}
@@ -7,6 +7,7 @@ use Rattle.dataset_types.specs.declared.row.Marked.{Marked}
 use Rattle.cell_errors.specs.declared.fault.EvalFault.{EvalFault}
 use Rattle.cell_errors.specs.Answers.{Answer, Fails}
 use Rattle.cell_errors.specs.Seen.{Seen}
+use Rattle.expr_ops.specs.Places.{placed}
 use Rattle.expr_meaning.specs.declared.setting.Setting.{Setting}
 use Rattle.expr_meaning.specs.declared.setting.Operands.{Operands}
 use Rattle.expr_meaning.specs.Settings.{MarkedSetting}
@@ -20,6 +21,14 @@ seen m = record { marked = m.marked; answer = Ok m.value }
 abbrev pub Sees : Result Marked EvalFault → Seen Value → Type 0
 Sees (Ok m) s = s ≡ seen m
 Sees (Err f) s = Fails f s.answer
+
+-- a value that was looked at, with its mark
+abbrev pub seen_as : Bool → Value → Seen Value
+seen_as marked value = record { marked = marked; answer = Ok value }
+
+-- the same of a call that leaves the value in a place
+abbrev pub Leaves : Result (Unit {0}) EvalFault → Marked → Seen Value → Type 0
+Leaves result place s = Sees (placed result place) s
 
 -- the values of all operands, whatever is made of them
 abbrev pub SeesAll : Result Operands EvalFault → List (Seen Value) → Type 0

@@ -38,12 +38,15 @@ pub record KnownSetting : Type 0 where
 abbrev pub at_row : List Binding → MarkedSetting
 at_row row = record { row = row; group = None; marked = false }
 
+-- over a row alone, without marks
 abbrev pub at_plain_row : List PlainBinding → PlainSetting
 at_plain_row row = record { row = row; group = None }
 
+-- over what is known of a row alone
 abbrev pub at_known_row : List KnownBinding → KnownSetting
 at_known_row row = record { row = row; group = None }
 
+-- a binding without its mark
 abbrev pub plain_binding : Binding → PlainBinding
 plain_binding b = record { qualifier = b.qualifier; name = b.name; value = b.value.value }
 
@@ -51,6 +54,7 @@ plain_binding b = record { qualifier = b.qualifier; name = b.name; value = b.val
 abbrev pub known_value : Marked → Option Value
 known_value m = unless_marked m.marked m.value
 
+-- what is known of a binding
 abbrev pub known_binding : Binding → KnownBinding
 known_binding b = record { qualifier = b.qualifier; name = b.name; value = known_value b.value }
 

@@ -40,6 +40,7 @@ where_bool answer (Of kind.Int) = Err error.TypeFault
 where_bool answer (Of kind.Fixed) = Err error.TypeFault
 where_bool answer (Of kind.Text) = Err error.TypeFault
 
+-- the answer, where the operand is a Text or NULL
 abbrev pub where_text : ExprType → ExprType → Answer ExprType
 where_text answer Null = Ok answer
 where_text answer (Of kind.Bool) = Err error.TypeFault
@@ -47,6 +48,7 @@ where_text answer (Of kind.Int) = Err error.TypeFault
 where_text answer (Of kind.Fixed) = Err error.TypeFault
 where_text answer (Of kind.Text) = Ok answer
 
+-- the answer, where the operand is an Int or NULL
 abbrev pub where_int : ExprType → ExprType → Answer ExprType
 where_int answer Null = Ok answer
 where_int answer (Of kind.Bool) = Err error.TypeFault
@@ -71,6 +73,7 @@ wider (Of kind.Bool) (Of l) = Of l
 wider (Of kind.Fixed) (Of l) = Of kind.Fixed
 wider (Of kind.Text) (Of l) = Of l
 
+-- the type of two numbers, of which the left one is looked at first
 abbrev pub numbers_type : ExprType → ExprType → Answer ExprType
 numbers_type t u = and_then (number_type t) (λ v. and_then (number_type u) (λ w. Ok (wider v w)))
 
@@ -96,6 +99,7 @@ comparison_type (Of kind.Fixed) (Of kind.Fixed) = Ok (Of kind.Bool)
 comparison_type (Of kind.Text) (Of kind.Text) = Ok (Of kind.Bool)
 comparison_type (Of k) (Of l) = Err error.TypeFault
 
+-- the type of an operator of one operand
 abbrev pub unary_type : UnaryOp → ExprType → Answer ExprType
 unary_type unary.Not t = where_bool (Of kind.Bool) t
 unary_type unary.Minus t = number_type t
@@ -124,6 +128,7 @@ left_type binary.Remainder t = Ok t
 abbrev pub remainder_type : ExprType → ExprType → Answer ExprType
 remainder_type t u = and_then (where_int (Of kind.Int) t) (λ v. where_int (Of kind.Int) u)
 
+-- the type of an operator of two operands, once `left_type` allows the left one
 abbrev pub binary_type : BinaryOp → ExprType → ExprType → Answer ExprType
 binary_type binary.Or t u = where_bool (Of kind.Bool) u
 binary_type binary.And t u = where_bool (Of kind.Bool) u
@@ -168,9 +173,11 @@ pub record TypeSetting : Type 0 where
   pub columns : List ScopeColumn
   pub group : Option (List ScopeColumn)
 
+-- over the columns of a row alone
 abbrev pub over_columns : List ScopeColumn → TypeSetting
 over_columns columns = record { columns = columns; group = None }
 
+-- the type of an expression in each setting
 abbrev pub Typing : Type 0
 Typing = TypeSetting → Answer ExprType
 
@@ -178,12 +185,15 @@ Typing = TypeSetting → Answer ExprType
 abbrev pub find_column : List ScopeColumn → Option Name → Name → Answer ScopeColumn
 find_column columns q name = meant (λ c. c.qualifier) (λ c. c.column.name) q name columns
 
+-- the type of the column that a name stands for
 abbrev pub column_type : List ScopeColumn → Option Name → Name → Answer ExprType
 column_type columns q name = and_then (find_column columns q name) (λ c. Ok (Of c.column.kind))
 
+-- the type of an operator, from those of its operands
 abbrev pub binary_typing : BinaryOp → Answer ExprType → Answer ExprType → Answer ExprType
 binary_typing op x y = and_then x (λ t. and_then (left_type op t) (λ v. and_then y (λ u. binary_type op t u)))
 
+-- the type of LIKE: both operands are typed before either is looked at
 abbrev pub like_typing : Answer ExprType → Answer ExprType → Answer ExprType
 like_typing x y = and_then x (λ t. and_then y (λ u. like_type t u))
 
@@ -208,6 +218,7 @@ arms_typing sofar (a ∷ arms) other =
     and_then a.0 (λ c. and_then (where_bool (Of kind.Bool) c) (λ v.
     and_then a.1 (λ t. arms_typing (agree sofar t) arms other)))
 
+-- that type, or NULL's where there is none
 abbrev pub or_null_type : Option (Answer ExprType) → Answer ExprType
 or_null_type None = Ok Null
 or_null_type (Some x) = x
@@ -222,12 +233,15 @@ abbrev pub over_typing : Aggregate → Typing → Option (List ScopeColumn) → 
 over_typing op x None = Err error.TypeFault
 over_typing op x (Some columns) = and_then (x (over_columns columns)) (aggregate_type op)
 
+-- the types of a list over the same columns
 abbrev pub each_at : TypeSetting → List Typing → List (Answer ExprType)
 each_at s xs = map (λ x. x s) xs
 
+-- the types of arms over the same columns
 abbrev pub arms_at : TypeSetting → List (Typing × Typing) → List (Answer ExprType × Answer ExprType)
 arms_at s arms = map (λ a. (a.0 s, a.1 s)) arms
 
+-- the type of each form, from those of its parts
 abbrev pub type_form : Expr-F Typing (Typing × Typing) → Typing
 type_form (Expr-F.Literal v) = λ s. Ok (type_of_value v)
 type_form (Expr-F.Column q name) = λ s. column_type s.columns q name

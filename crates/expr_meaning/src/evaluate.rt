@@ -6,22 +6,22 @@ ghost use Rattle.std.specs.Prelude.{Ok};
 ghost use Rattle.expr_ops.specs.Casts as casts;
 ghost use Rattle.expr_ops.specs.Ops as ops;
 ghost use Rattle.expr_ops.specs.Truths as truths;
-ghost use Rattle.expr_meaning.specs.Sees.{Sees, SeesAll, seen};
+ghost use Rattle.expr_meaning.specs.Sees.{Leaves, Sees, SeesAll, seen};
 ghost use Rattle.expr_meaning.specs.Calls.{caveat_gives, case_gives, each_gives, each_row_gives, gives, in_gives};
-ghost use Rattle.expr_meaning.specs.Calls.{like_gives, made_of, operator_gives, over_gives};
+ghost use Rattle.expr_meaning.specs.Calls.{like_gives, made_of, operator_gives, over_gives, rest_gives};
 ghost use Rattle.expr_meaning.specs.Meaning.{marked_over_row};
-ghost use Rattle.expr_meaning.specs.Steps.{equals_one, first_value_marked, or_equal_marked};
+ghost use Rattle.expr_meaning.specs.Steps.{beside_marked, equals_one, first_value_marked, or_equal_marked};
 
 use crate::bindings::Bindings;
 use crate::caveat::picked;
-use crate::marked::{beside, count_all, found, literal};
+use crate::marked::{beside, count_all, found, literal, put_found, put_literal};
 use crate::named::meant;
 use crate::setting::{Operands, Setting};
 use cell_errors::{CellError, EvalFault};
 use dataset_types::{Marked, Picks};
 use expr_lang::{Arm, BinaryOp, Expr, UnaryOp};
 use expr_ops::{
-    Aggregate, aggregated, binary, cast, decided, equal, is_null, is_true, like, negated_if,
+    Aggregate, aggregated, binary, cast, decides, equal, is_null, is_true, like, negated_if,
     null_test, unary,
 };
 use sqlite_items::Boxed;
@@ -53,10 +53,15 @@ pub fn eval(
     eval_in(alloc, expr, &setting)
 }
 
-/// The value of an expression in its setting.
+/// The value of an expression in its setting, marked where an operand that was looked at is marked.
+///
+/// - Shape: names stand for the bindings of the setting's row, and within an aggregate for those of each row of its
+///   group; an aggregate over a group whose rows aren't certain is marked.
+/// - Error: those of `eval`, in the order of evaluation; an aggregate is `TypeFault` where there is no group.
+/// - Source: docs/EXPRESSIONS.md.
 #[cycle(eval)]
 #[tactic(auto, using(crate::proofs::Readings::readings))]
-pub(crate) fn eval_in(alloc: Global, expr: &Expr, setting: &Setting) -> Result<Marked, EvalFault>
+pub fn eval_in(alloc: Global, expr: &Expr, setting: &Setting) -> Result<Marked, EvalFault>
     ensures { Sees result (gives setting.now expr.now) }
 {
     match expr {
@@ -112,25 +117,112 @@ fn applied(
 ) -> Result<Marked, EvalFault>
     ensures { Sees result (operator_gives op setting.now left.now right.now) }
 {
-    let left = eval_in(alloc, left, setting)?;
-    match decided(op, &left.value)? {
-        Some(value) => Ok(Marked {
-            value,
-            marked: left.marked,
-        }),
-        // A literal or a name as the right operand is lent, not written again.
-        None => match right {
-            Expr::Literal(value) => beside(alloc, op, left, value, false),
-            Expr::Column { qualifier, name } => {
-                let binding = meant(setting.row.as_slice(), qualifier, name)?;
-                beside(alloc, op, left, &binding.value.value, binding.value.marked)
-            }
-            _ => {
-                let right = eval_in(alloc, right, setting)?;
-                beside(alloc, op, left, &right.value, right.marked)
-            }
-        },
+    let mut out = Marked {
+        value: Value::Null,
+        marked: false,
+    };
+    apply(alloc, op, left, right, setting, &mut out)?;
+    Ok(out)
+}
+
+/// The value of an expression, put in a place. Operators within operators hand on one place, so that their values
+/// aren't moved from call to call.
+#[cycle(eval)]
+#[tactic(auto, using(crate::proofs::Readings::readings))]
+#[inline(always)]
+fn put(alloc: Global, expr: &Expr, setting: &Setting, out: &mut Marked) -> Result<(), EvalFault>
+    ensures { Leaves result out.new (gives setting.now expr.now) }
+{
+    match expr {
+        Expr::Literal(value) => put_literal(alloc, value, out)?,
+        Expr::Column { qualifier, name } => put_found(alloc, setting.row, qualifier, name, out)?,
+        Expr::Binary(op, left, right) => apply(alloc, *op, left.get(), right.get(), setting, out)?,
+        _ => put_other(alloc, expr, setting, out)?,
     }
+    Ok(())
+}
+
+/// The value of any expression, put in a place.
+#[cycle(eval)]
+#[tactic(auto, using(crate::proofs::Readings::readings))]
+#[inline(never)]
+fn put_other(
+    alloc: Global,
+    expr: &Expr,
+    setting: &Setting,
+    out: &mut Marked,
+) -> Result<(), EvalFault>
+    ensures { Leaves result out.new (gives setting.now expr.now) }
+{
+    *out = eval_in(alloc, expr, setting)?;
+    Ok(())
+}
+
+/// An operator, whose value is put in a place.
+#[cycle(eval)]
+#[tactic(auto, using(crate::proofs::Readings::readings))]
+fn apply(
+    alloc: Global,
+    op: BinaryOp,
+    left: &Expr,
+    right: &Expr,
+    setting: &Setting,
+    out: &mut Marked,
+) -> Result<(), EvalFault>
+    ensures { Leaves result out.new (operator_gives op setting.now left.now right.now) }
+{
+    put(alloc, left, setting, out)?;
+    apply_rest(alloc, op, right, setting, out)?;
+    Ok(())
+}
+
+/// An operator whose left operand stands in the place where its value is to be.
+#[cycle(eval)]
+#[tactic(auto, using(crate::proofs::Readings::readings))]
+fn apply_rest(
+    alloc: Global,
+    op: BinaryOp,
+    right: &Expr,
+    setting: &Setting,
+    out: &mut Marked,
+) -> Result<(), EvalFault>
+    ensures { Leaves result out.new (rest_gives op out.old setting.now right.now) }
+{
+    if decides(op, &out.value)? {
+        return Ok(());
+    }
+    match right {
+        // A literal or a name as the right operand is lent, not written again.
+        Expr::Literal(value) => beside(alloc, op, value, false, out)?,
+        Expr::Column { qualifier, name } => {
+            let binding = meant(setting.row.as_slice(), qualifier, name)?;
+            beside(alloc, op, &binding.value.value, binding.value.marked, out)?
+        }
+        _ => beside_nested(alloc, op, right, setting, out)?,
+    }
+    Ok(())
+}
+
+/// An operator whose left operand stands in `out` and didn't decide, on it and what the right one gives.
+#[cycle(eval)]
+#[tactic(auto, using(crate::proofs::Readings::readings))]
+#[inline(never)]
+fn beside_nested(
+    alloc: Global,
+    op: BinaryOp,
+    right: &Expr,
+    setting: &Setting,
+    out: &mut Marked,
+) -> Result<(), EvalFault>
+    ensures { Leaves result out.new (beside_marked op out.old (gives setting.now right.now)) }
+{
+    let mut other = Marked {
+        value: Value::Null,
+        marked: false,
+    };
+    put(alloc, right, setting, &mut other)?;
+    beside(alloc, op, &other.value, other.marked, out)?;
+    Ok(())
 }
 
 /// IS NULL, or IS NOT NULL.
@@ -263,20 +355,15 @@ fn or_equal(
 ) -> Result<Marked, EvalFault>
     ensures { Sees result (or_equal_marked (seen found) value.now (gives setting.now item.now)) }
 {
-    match decided(BinaryOp::Or, &found.value)? {
-        Some(value) => Ok(Marked {
-            value,
-            marked: found.marked,
-        }),
-        None => {
-            let y = eval_in(alloc, item, setting)?;
-            let holds = equal(value, &y.value)?;
-            Ok(Marked {
-                value: binary(alloc, BinaryOp::Or, found.value, &holds)?,
-                marked: found.marked || y.marked,
-            })
-        }
+    if decides(BinaryOp::Or, &found.value)? {
+        return Ok(found);
     }
+    let y = eval_in(alloc, item, setting)?;
+    let holds = equal(value, &y.value)?;
+    Ok(Marked {
+        value: binary(alloc, BinaryOp::Or, found.value, &holds)?,
+        marked: found.marked || y.marked,
+    })
 }
 
 /// CASE: the answer of the first arm whose condition is TRUE, else the other.

@@ -20,7 +20,9 @@ mod type_rules;
 mod typing;
 
 pub use bindings::{Binding, Bindings, Scope, ScopeColumn};
-pub use evaluate::eval;
+pub use evaluate::{eval, eval_in};
 pub use expr_type::ExprType;
 pub use laws::{law_of_erasure, law_of_known};
-pub use typing::type_of;
+pub use named::{Named, meant};
+pub use setting::Setting;
+pub use typing::{TypedSetting, type_in, type_of};

@@ -1,9 +1,10 @@
 //! The forms on values with their marks, once their operands were looked at.
-ghost use Rattle.std.specs.Prelude.{◌≡◌, length, pos, Ok};
-ghost use Rattle.cell_errors.specs.Seen.{after, unmarked};
-ghost use Rattle.expr_ops.specs.Ops as ops;
-ghost use Rattle.expr_meaning.specs.Sees.{Sees, setting_of};
+ghost use Rattle.std.specs.Prelude.{◌≡◌, length, pos, Ok, OnOk};
+ghost use Rattle.value_types.specs.declared.value.Value.TheVariants.{Text};
+ghost use Rattle.cell_errors.specs.Seen.{unmarked};
+ghost use Rattle.expr_meaning.specs.Sees.{Leaves, Sees, seen_as, setting_of};
 ghost use Rattle.expr_meaning.specs.Meaning.{count_marked, find_marked};
+ghost use Rattle.expr_meaning.specs.Steps.{beside_marked};
 
 use crate::bindings::Bindings;
 use crate::named::meant;
@@ -11,9 +12,9 @@ use crate::setting::Setting;
 use cell_errors::{CellError, EvalFault};
 use dataset_types::Marked;
 use expr_lang::BinaryOp;
-use expr_ops::binary;
+use expr_ops::binary_in_place;
 use std::alloc::Global;
-use value_types::{Name, Value};
+use value_types::{Name, NoMemory, Value, Words};
 
 /// A literal, which is unmarked.
 #[inline(never)]
@@ -43,21 +44,70 @@ pub(crate) fn found(
     })
 }
 
-/// An operator whose left operand didn't decide, on it and the right one.
+/// A text, written again in a place.
 #[inline(never)]
+fn put_text(alloc: Global, text: &Words, out: &mut Value) -> Result<(), NoMemory>
+    ensures { OnOk result (out.new ≡ Text text.now) }
+{
+    *out = Value::Text(text.copy(alloc)?);
+    Ok(())
+}
+
+/// A value, written again in a place.
+#[inline(always)]
+fn put_copy(alloc: Global, value: &Value, out: &mut Value) -> Result<(), NoMemory>
+    ensures { OnOk result (out.new ≡ value.now) }
+{
+    // A value without a text is written where it is to stand, and not moved there.
+    match value {
+        Value::Null => *out = Value::Null,
+        Value::Bool(b) => *out = Value::Bool(*b),
+        Value::Int(n) => *out = Value::Int(*n),
+        Value::Fixed(n) => *out = Value::Fixed(*n),
+        Value::Text(text) => put_text(alloc, text, out)?,
+    }
+    Ok(())
+}
+
+/// A literal, put in a place.
+pub(crate) fn put_literal(alloc: Global, value: &Value, out: &mut Marked) -> Result<(), EvalFault>
+    ensures { Leaves result out.new (unmarked (Ok value.now)) }
+{
+    put_copy(alloc, value, &mut out.value)?;
+    out.marked = false;
+    Ok(())
+}
+
+/// What a name stands for, put in a place.
+pub(crate) fn put_found(
+    alloc: Global,
+    row: &Bindings,
+    qualifier: &Option<Name>,
+    name: &Name,
+    out: &mut Marked,
+) -> Result<(), EvalFault>
+    ensures { Leaves result out.new (find_marked row.now qualifier.now name.now) }
+{
+    let binding = meant(row.as_slice(), qualifier, name)?;
+    put_copy(alloc, &binding.value.value, &mut out.value)?;
+    out.marked = binding.value.marked;
+    Ok(())
+}
+
+/// An operator whose left operand stands in `out` and didn't decide, on it and the right one.
+#[inline(always)]
 pub(crate) fn beside(
     alloc: Global,
     op: BinaryOp,
-    left: Marked,
     right: &Value,
     marked: bool,
-) -> Result<Marked, EvalFault>
-    ensures { Sees result (after left.marked (after marked (unmarked (ops.binary_of op left.value right.now)))) }
+    out: &mut Marked,
+) -> Result<(), EvalFault>
+    ensures { Leaves result out.new (beside_marked op out.old (seen_as marked right.now)) }
 {
-    Ok(Marked {
-        value: binary(alloc, op, left.value, right)?,
-        marked: left.marked || marked,
-    })
+    binary_in_place(alloc, op, &mut out.value, right)?;
+    out.marked |= marked;
+    Ok(())
 }
 
 fn count_of(rows: &[Bindings]) -> i64

@@ -7,7 +7,7 @@ use cell_errors::CellError;
 use value_types::Name;
 
 /// Something that a name can stand for.
-pub(crate) trait Named {
+pub trait Named {
     ghost use Rattle.std.specs.Prelude.{ℕ, List, Option};
 
     ghost qualifier_of: { Self → Option (List ℕ) };
@@ -66,7 +66,7 @@ fn matching<'a, T: Named>(
 /// The one of the written qualifier. For a bare name it is the one without a qualifier, else the one of any.
 ///
 /// - Error: `NoColumn` exactly where there is none, or two of them.
-pub(crate) fn meant<'a, T: Named>(
+pub fn meant<'a, T: Named>(
     items: &'a [T],
     qualifier: &Option<Name>,
     name: &Name,

@@ -22,8 +22,10 @@ use value_types::{ColumnType, Name};
 
 /// Where an expression is typed: over the columns of a row, and in a grouped query over those of its rows.
 #[derive(Clone, Copy)]
-pub(crate) struct TypedSetting<'a> {
+pub struct TypedSetting<'a> {
+    /// What names stand for outside of aggregates.
     pub columns: &'a Scope,
+    /// None where the query isn't grouped; names in an aggregate stand for these columns.
     pub group: Option<&'a Scope>,
 }
 
@@ -62,10 +64,14 @@ fn count_type(setting: &TypedSetting) -> Result<ExprType, CellError>
     }
 }
 
-/// The type of an expression in its setting.
+/// The static type of an expression in its setting.
+///
+/// - Shape: names stand for the columns of the setting, and within an aggregate for those of its group.
+/// - Error: those of `type_of`, in the order of evaluation; an aggregate is `TypeFault` where there is no group.
+/// - Source: docs/EXPRESSIONS.md, "Static types".
 #[cycle(typing)]
 #[tactic(auto, using(crate::proofs::Typings::typings))]
-pub(crate) fn type_in(expr: &Expr, setting: &TypedSetting) -> Result<ExprType, CellError>
+pub fn type_in(expr: &Expr, setting: &TypedSetting) -> Result<ExprType, CellError>
     ensures { result ≡ spec.type_at (type_setting setting.now) expr.now }
 {
     match expr {

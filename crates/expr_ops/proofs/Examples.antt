@@ -42,6 +42,10 @@ no_rest = refl
 product : binary_of binary.Multiply (Fixed (pos 15000)) (Fixed (pos 15000)) ≡ Ok (Fixed (pos 22500))
 product = refl
 
+-- 2.0 / 3 is 0.6666
+two_thirds : binary_of binary.Divide (Fixed (pos 20000)) (Int (pos 3)) ≡ Ok (Fixed (pos 6666))
+two_thirds = refl
+
 -- 1 + 0.5 is 1.5
 mixed : binary_of binary.Add (Int (pos 1)) (Fixed (pos 5000)) ≡ Ok (Fixed (pos 15000))
 mixed = refl
@@ -158,18 +162,28 @@ no_truth = refl
 
 -- ---- NULL
 
--- NULL + 'x' is an error, NULL = 'x' and NULL / 0 are NULL
-null_plus : binary_of binary.Add Null (Text (codes "x")) ≡ Err error.TypeFault
-null_plus = refl
-
-null_equals : binary_of binary.Equal Null (Text (codes "x")) ≡ Ok Null
-null_equals = refl
+-- NULL + 1, NULL / 0, NULL = 'x' and NULL || 'x' are NULL
+null_plus_one : binary_of binary.Add Null (Int (pos 1)) ≡ Ok Null
+null_plus_one = refl
 
 null_over : binary_of binary.Divide Null (Int (pos 0)) ≡ Ok Null
 null_over = refl
 
+null_equals : binary_of binary.Equal Null (Text (codes "x")) ≡ Ok Null
+null_equals = refl
+
+null_joined : binary_of binary.Concat Null (Text (codes "x")) ≡ Ok Null
+null_joined = refl
+
+-- NULL + 'x', NULL LIKE 1 and NULL % 1.5 are errors
+null_plus : binary_of binary.Add Null (Text (codes "x")) ≡ Err error.TypeFault
+null_plus = refl
+
 null_like : like Null (Int (pos 1)) ≡ Err error.TypeFault
 null_like = refl
+
+null_rest : binary_of binary.Remainder Null (Fixed (pos 15000)) ≡ Err error.TypeFault
+null_rest = refl
 
 -- FALSE decides AND, NULL doesn't; NULL AND FALSE is FALSE
 false_decides : decided binary.And (Truth false) ≡ Ok (Some (Truth false))

@@ -1,12 +1,14 @@
 -- Comparisons. An Int beside a Fixed is compared exactly, whatever its size.
 use Rattle.std.specs.Prelude.{Bool, Option, Some, None, Ok, Err}
-use Rattle.std.specs.Ordering.{int_cmp, nat_cmp, bool_cmp, is_eq}
+use Rattle.std.specs.Ordering.{int_cmp, nat_cmp, bool_cmp, is_eq, is_ne, is_lt, is_le, is_gt, is_ge}
 use Rattle.std.specs.Cmp.Lexicographic.{slice_cmp}
 use Rattle.std.specs.declared.cmp.Ordering.{Ordering}
 use Rattle.value_types.specs.declared.value.Value.{Value}
 use Rattle.value_types.specs.declared.value.Value.TheVariants.{Null, Bool as Truth, Int, Fixed, Text}
 use Rattle.cell_errors.specs.declared.fault.CellError.TheVariants as error
 use Rattle.cell_errors.specs.Answers.{Answer, and_then}
+use Rattle.expr_ops.specs.declared.compare.Comparison.{Comparison}
+use Rattle.expr_ops.specs.declared.compare.Comparison.TheVariants as by
 use Rattle.expr_ops.specs.Arithmetic.{ten_thousandths}
 
 -- how two values of one type, or two numbers, stand; none where one is NULL
@@ -36,3 +38,12 @@ compared test a b = and_then (order a b) (λ o. Ok (tested test o))
 -- `=`
 abbrev pub equal : Value → Value → Answer Value
 equal = compared is_eq
+
+-- the test that an order passes
+abbrev pub test_of : Comparison → Ordering → Bool
+test_of by.Equal = is_eq
+test_of by.NotEqual = is_ne
+test_of by.Less = is_lt
+test_of by.AtMost = is_le
+test_of by.Greater = is_gt
+test_of by.AtLeast = is_ge

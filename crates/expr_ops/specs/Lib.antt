@@ -6,5 +6,6 @@ pub mod Compare
 pub mod Texts
 pub mod Casts
 pub mod Aggregates
+pub mod Places
 -- what the functions inside the crate promise each other
 pub mod LikeSteps

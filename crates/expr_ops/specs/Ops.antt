@@ -1,5 +1,5 @@
 -- What the operators give on values.
-use Rattle.std.specs.Prelude.{Option, None, Ok}
+use Rattle.std.specs.Prelude.{Bool, true, false, Option, Some, None, Ok, Err}
 use Rattle.std.specs.Ordering.{is_eq, is_ne, is_lt, is_le, is_gt, is_ge}
 use Rattle.value_types.specs.declared.value.Value.{Value}
 use Rattle.expr_lang.specs.declared.ops.UnaryOp.{UnaryOp}
@@ -37,6 +37,12 @@ decided binary.Subtract v = Ok None
 decided binary.Multiply v = Ok None
 decided binary.Divide v = Ok None
 decided binary.Remainder v = Ok None
+
+-- the left operand, where it was told to decide; else none
+abbrev pub deciding : Value → Answer Bool → Answer (Option Value)
+deciding v (Ok true) = Ok (Some v)
+deciding v (Ok false) = Ok None
+deciding v (Err e) = Err e
 
 -- the value, where it doesn't
 abbrev pub binary_of : BinaryOp → Value → Value → Answer Value

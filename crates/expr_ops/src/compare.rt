@@ -1,7 +1,7 @@
 //! Comparisons.
 ghost use Rattle.std.specs.Prelude.{◌≡◌};
-ghost use Rattle.std.specs.Ordering.{is_eq, is_ne, is_lt, is_le, is_gt, is_ge};
 ghost use Rattle.expr_ops.specs.Compare as spec;
+ghost use Rattle.expr_ops.specs.Places.{placed};
 
 use crate::number::ten_thousandths;
 use cell_errors::CellError;
@@ -36,52 +36,38 @@ pub fn equal(a: &Value, b: &Value) -> Result<Value, CellError>
     }
 }
 
-/// `<>`.
-pub(crate) fn not_equal(a: &Value, b: &Value) -> Result<Value, CellError>
-    ensures { result ≡ spec.compared is_ne a.now b.now }
+/// How two values are compared.
+#[derive(Clone, Copy)]
+pub(crate) enum Comparison {
+    Equal,
+    NotEqual,
+    Less,
+    AtMost,
+    Greater,
+    AtLeast,
+}
+
+fn is_met(by: Comparison, order: Ordering) -> bool
+    ensures { result ≡ spec.test_of by order }
 {
-    match order(a, b)? {
-        None => Ok(Value::Null),
-        Some(o) => Ok(Value::Bool(o.is_ne())),
+    match by {
+        Comparison::Equal => order.is_eq(),
+        Comparison::NotEqual => order.is_ne(),
+        Comparison::Less => order.is_lt(),
+        Comparison::AtMost => order.is_le(),
+        Comparison::Greater => order.is_gt(),
+        Comparison::AtLeast => order.is_ge(),
     }
 }
 
-/// `<`.
-pub(crate) fn less(a: &Value, b: &Value) -> Result<Value, CellError>
-    ensures { result ≡ spec.compared is_lt a.now b.now }
+/// `=`, `<>`, `<`, `<=`, `>` and `>=`, with the answer left in the place of the left operand.
+#[inline(never)]
+pub(crate) fn compare(by: Comparison, a: &mut Value, b: &Value) -> Result<(), CellError>
+    ensures { placed result a.new ≡ spec.compared (spec.test_of by) a.old b.now }
 {
     match order(a, b)? {
-        None => Ok(Value::Null),
-        Some(o) => Ok(Value::Bool(o.is_lt())),
+        None => *a = Value::Null,
+        Some(order) => *a = Value::Bool(is_met(by, order)),
     }
-}
-
-/// `<=`.
-pub(crate) fn at_most(a: &Value, b: &Value) -> Result<Value, CellError>
-    ensures { result ≡ spec.compared is_le a.now b.now }
-{
-    match order(a, b)? {
-        None => Ok(Value::Null),
-        Some(o) => Ok(Value::Bool(o.is_le())),
-    }
-}
-
-/// `>`.
-pub(crate) fn greater(a: &Value, b: &Value) -> Result<Value, CellError>
-    ensures { result ≡ spec.compared is_gt a.now b.now }
-{
-    match order(a, b)? {
-        None => Ok(Value::Null),
-        Some(o) => Ok(Value::Bool(o.is_gt())),
-    }
-}
-
-/// `>=`.
-pub(crate) fn at_least(a: &Value, b: &Value) -> Result<Value, CellError>
-    ensures { result ≡ spec.compared is_ge a.now b.now }
-{
-    match order(a, b)? {
-        None => Ok(Value::Null),
-        Some(o) => Ok(Value::Bool(o.is_ge())),
-    }
+    Ok(())
 }

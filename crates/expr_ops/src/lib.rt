@@ -22,6 +22,6 @@ pub use aggregates::{Aggregate, aggregated};
 pub use casts::cast;
 pub use compare::equal;
 pub use number::Arithmetic;
-pub use ops::{binary, decided, unary};
+pub use ops::{binary, binary_in_place, decides, unary};
 pub use pattern::like;
 pub use truth::{is_null, is_true, negated_if, null_test};

@@ -1,8 +1,11 @@
 //! Arithmetic.
-ghost use Rattle.std.specs.Prelude.{◌≡◌, ◌<◌, ◌≤◌, ◌^◌, ◌*ℤ◌, unsigned_abs, pos};
+ghost use Rattle.std.specs.Prelude.{◌≡◌, ◌<◌, ◌≤◌, ◌^◌, ◌*ℤ◌, unsigned_abs, pos, IfSome};
 ghost use Rattle.expr_ops.specs.Arithmetic as spec;
+ghost use Rattle.expr_ops.specs.Ops.{binary_of};
+ghost use Rattle.expr_ops.specs.Places.{placed};
 
 use cell_errors::CellError;
+use expr_lang::BinaryOp;
 use value_types::Value;
 
 /// An operator on two numbers.
@@ -41,14 +44,24 @@ fn divided(a: i128, b: i64) -> Result<i64, CellError>
     in_range(a / i128::from(b))
 }
 
+// In 64 bits, where a division takes a fraction of the time that it takes in 128.
+fn quotient(a: i64, b: i64) -> Result<i64, CellError>
+    ensures { result ≡ spec.divided a b }
+{
+    if b == 0 {
+        return Err(CellError::ZeroDivisor);
+    }
+    a.checked_div(b).ok_or(CellError::Overflow)
+}
+
 fn remainder(a: i64, b: i64) -> Result<i64, CellError>
     ensures { result ≡ spec.remainder a b }
 {
     if b == 0 {
         return Err(CellError::ZeroDivisor);
     }
-    // In 128 bits, since the least i64 has no remainder by -1 in 64.
-    Ok((i128::from(a) % i128::from(b)) as i64)
+    // Where the least i64 is divided by -1, the remainder is 0, though the quotient leaves 64 bits.
+    Ok(a.wrapping_rem(b))
 }
 
 fn product(a: i64, b: i64) -> i128
@@ -64,7 +77,7 @@ fn on_ints(op: Arithmetic, a: i64, b: i64) -> Result<i64, CellError>
         Arithmetic::Add => in_range(i128::from(a) + i128::from(b)),
         Arithmetic::Subtract => in_range(i128::from(a) - i128::from(b)),
         Arithmetic::Multiply => in_range(product(a, b)),
-        Arithmetic::Divide => divided(i128::from(a), b),
+        Arithmetic::Divide => quotient(a, b),
     }
 }
 
@@ -109,7 +122,7 @@ pub(crate) fn null_where(allowed: bool) -> Result<Value, CellError>
 }
 
 /// `+ - * /`.
-pub(crate) fn calculated(op: Arithmetic, a: &Value, b: &Value) -> Result<Value, CellError>
+fn calculated(op: Arithmetic, a: &Value, b: &Value) -> Result<Value, CellError>
     ensures { result ≡ spec.calculated op a.now b.now }
 {
     match (a, b) {
@@ -128,12 +141,48 @@ pub(crate) fn calculated(op: Arithmetic, a: &Value, b: &Value) -> Result<Value, 
 }
 
 /// `%`.
-pub(crate) fn remaining(a: &Value, b: &Value) -> Result<Value, CellError>
+fn remaining(a: &Value, b: &Value) -> Result<Value, CellError>
     ensures { result ≡ spec.remaining a.now b.now }
 {
     match (a, b) {
         (Value::Int(a), Value::Int(b)) => Ok(Value::Int(remainder(*a, *b)?)),
         _ => null_where(is_int(a) && is_int(b)),
+    }
+}
+
+/// `+ - * /`, with the answer left in the place of the left operand.
+#[inline(never)]
+pub(crate) fn calculate(op: Arithmetic, a: &mut Value, b: &Value) -> Result<(), CellError>
+    ensures { placed result a.new ≡ spec.calculated op a.old b.now }
+{
+    *a = calculated(op, a, b)?;
+    Ok(())
+}
+
+/// `%`, with the answer left in the place of the left operand.
+#[inline(never)]
+pub(crate) fn take_remainder(a: &mut Value, b: &Value) -> Result<(), CellError>
+    ensures { placed result a.new ≡ spec.remaining a.old b.now }
+{
+    *a = remaining(a, b)?;
+    Ok(())
+}
+
+/// What an operator of arithmetic gives on two Ints; none of other operators and values, of which nothing is said.
+#[inline(always)]
+pub(crate) fn on_two_ints(op: BinaryOp, a: &Value, b: &Value) -> Option<Result<i64, CellError>>
+    ensures { IfSome result (λ n. spec.an_int n ≡ binary_of op a.now b.now) }
+{
+    match (a, b) {
+        (Value::Int(a), Value::Int(b)) => match op {
+            BinaryOp::Add => Some(on_ints(Arithmetic::Add, *a, *b)),
+            BinaryOp::Subtract => Some(on_ints(Arithmetic::Subtract, *a, *b)),
+            BinaryOp::Multiply => Some(on_ints(Arithmetic::Multiply, *a, *b)),
+            BinaryOp::Divide => Some(on_ints(Arithmetic::Divide, *a, *b)),
+            BinaryOp::Remainder => Some(remainder(*a, *b)),
+            _ => None,
+        },
+        _ => None,
     }
 }
 

@@ -1,7 +1,7 @@
 //! Numbers, NULL, truth and aggregates at their borders. Expected values are worked out by hand from
 //! docs/EXPRESSIONS.md.
 use crate::{
-    Aggregate, aggregated, binary, decided, equal, is_true, like, negated_if, null_test, unary,
+    Aggregate, aggregated, binary, decides, equal, is_true, like, negated_if, null_test, unary,
 };
 use cell_errors::{CellError, EvalFault};
 use expr_lang::{BinaryOp, UnaryOp};
@@ -204,10 +204,10 @@ fn joined(
 ) -> Result<Value, EvalFault> {
     let a = a.map_or(Value::Null, Value::Bool);
     let b = b.map_or(Value::Null, Value::Bool);
-    match decided(op, &a)? {
-        Some(value) => Ok(value),
-        None => binary(alloc, op, a, &b),
+    if decides(op, &a)? {
+        return Ok(a);
     }
+    binary(alloc, op, a, &b)
 }
 
 #[test]
@@ -232,7 +232,7 @@ fn and_and_or_have_three_values(rt: HostRuntime) {
     }
     assert!(rt;
         matches!(
-            decided(BinaryOp::And, &Value::Int(1)),
+            decides(BinaryOp::And, &Value::Int(1)),
             Err(CellError::TypeFault)
         )
     );

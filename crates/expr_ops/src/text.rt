@@ -3,11 +3,13 @@ ghost use Rattle.std.specs.Prelude.{◌≡◌, pos, length, IfOk};
 ghost use Rattle.std.specs.Str.{chars};
 ghost use Rattle.value_types.specs.Text.{plain};
 ghost use Rattle.cell_errors.specs.Answers.{Gives};
+ghost use Rattle.expr_ops.specs.Places.{placed};
 ghost use Rattle.expr_ops.specs.Texts as spec;
 
 use crate::truth::is_null;
 use cell_errors::{CellError, EvalFault};
 use std::alloc::Global;
+use std::mem;
 use value_types::{NoMemory, Value, Words, plain_text};
 
 /// How many characters a text has.
@@ -79,17 +81,21 @@ pub(crate) fn into_plain(alloc: Global, value: Value) -> Result<Words, NoMemory>
     }
 }
 
-/// `||`. The right text is written after the left one in its place, so that a chain takes the time of its text.
-pub(crate) fn joined(alloc: Global, left: Value, right: &Value) -> Result<Value, EvalFault>
-    ensures { Gives result (spec.joined left right.now) }
+/// `||`, in the place of the left operand. The right text is written after the left one, so that a chain takes the
+/// time of its text.
+#[inline(never)]
+pub(crate) fn join(alloc: Global, left: &mut Value, right: &Value) -> Result<(), EvalFault>
+    ensures { Gives (placed result left.new) (spec.joined left.old right.now) }
 {
-    if is_null(&left) || is_null(right) {
-        return Ok(Value::Null);
+    if is_null(left) || is_null(right) {
+        *left = Value::Null;
+        return Ok(());
     }
-    let mut text = into_plain(alloc, left)?;
+    let mut text = into_plain(alloc, mem::replace(left, Value::Null))?;
     plain_text(alloc, right, &mut text)?;
     if text.len() > 65_536 {
         return Err(EvalFault::Error(CellError::TooLarge));
     }
-    Ok(Value::Text(text))
+    *left = Value::Text(text);
+    Ok(())
 }

@@ -1,5 +1,8 @@
 //! Truth with NULL.
 ghost use Rattle.std.specs.Prelude.{◌≡◌};
+ghost use Rattle.expr_lang.specs.declared.ops.BinaryOp.TheVariants as by;
+ghost use Rattle.expr_ops.specs.Ops.{binary_of};
+ghost use Rattle.expr_ops.specs.Places.{placed};
 ghost use Rattle.expr_ops.specs.Truths as spec;
 
 use cell_errors::CellError;
@@ -101,14 +104,14 @@ fn null_and(truth: Option<bool>) -> Option<bool>
 }
 
 /// OR, where the left operand is FALSE or NULL.
-pub(crate) fn or_rest(left: &Value, right: Option<bool>) -> Value
+fn or_rest(left: &Value, right: Option<bool>) -> Value
     ensures { result ≡ spec.truth_value (spec.or_rest left.now right) }
 {
     truth_value(if is_null(left) { null_or(right) } else { right })
 }
 
 /// AND, where the left operand is TRUE or NULL.
-pub(crate) fn and_rest(left: &Value, right: Option<bool>) -> Value
+fn and_rest(left: &Value, right: Option<bool>) -> Value
     ensures { result ≡ spec.truth_value (spec.and_rest left.now right) }
 {
     truth_value(if is_null(left) {
@@ -116,4 +119,22 @@ pub(crate) fn and_rest(left: &Value, right: Option<bool>) -> Value
     } else {
         right
     })
+}
+
+/// OR, where the left operand is FALSE or NULL, with the answer left in its place.
+#[inline(never)]
+pub(crate) fn put_or(left: &mut Value, right: &Value) -> Result<(), CellError>
+    ensures { placed result left.new ≡ binary_of by.Or left.old right.now }
+{
+    *left = or_rest(left, truth(right)?);
+    Ok(())
+}
+
+/// AND, where the left operand is TRUE or NULL, with the answer left in its place.
+#[inline(never)]
+pub(crate) fn put_and(left: &mut Value, right: &Value) -> Result<(), CellError>
+    ensures { placed result left.new ≡ binary_of by.And left.old right.now }
+{
+    *left = and_rest(left, truth(right)?);
+    Ok(())
 }

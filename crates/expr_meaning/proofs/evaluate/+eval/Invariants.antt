@@ -17,46 +17,61 @@ depth_of (Some e) = the_size e
 -- Each function goes on with a part, or hands what it has to one with a smaller number. Where it has several, the
 -- deepest counts.
 abbrev pub decreases-eval_in : goal.decreases-eval_in
-decreases-eval_in l = 4 * goal.size-eval_in l
+decreases-eval_in l = 8 * goal.size-eval_in l
 
 abbrev pub decreases-unary_of : goal.decreases-unary_of
-decreases-unary_of l = 4 * goal.size-unary_of l + 1
+decreases-unary_of l = 8 * goal.size-unary_of l + 1
+
+abbrev pub decreases-put_other : goal.decreases-put_other
+decreases-put_other l = 8 * goal.size-put_other l + 1
+
+abbrev pub decreases-put : goal.decreases-put
+decreases-put l = 8 * goal.size-put l + 2
+
+abbrev pub decreases-beside_nested : goal.decreases-beside_nested
+decreases-beside_nested l = 8 * goal.size-beside_nested l + 3
+
+abbrev pub decreases-apply_rest : goal.decreases-apply_rest
+decreases-apply_rest l = 8 * goal.size-apply_rest l + 4
+
+abbrev pub decreases-apply : goal.decreases-apply
+decreases-apply l = 8 * max (the_size l.left.now) (the_size l.right.now) + 5
 
 abbrev pub decreases-applied : goal.decreases-applied
-decreases-applied l = 4 * max (the_size l.left.now) (the_size l.right.now) + 1
+decreases-applied l = 8 * max (the_size l.left.now) (the_size l.right.now) + 6
 
 abbrev pub decreases-null_test_of : goal.decreases-null_test_of
-decreases-null_test_of l = 4 * goal.size-null_test_of l + 1
+decreases-null_test_of l = 8 * goal.size-null_test_of l + 1
 
 abbrev pub decreases-is_like : goal.decreases-is_like
-decreases-is_like l = 4 * max (the_size l.of.now) (the_size l.pattern.now) + 1
+decreases-is_like l = 8 * max (the_size l.of.now) (the_size l.pattern.now) + 1
 
 abbrev pub decreases-cast_of : goal.decreases-cast_of
-decreases-cast_of l = 4 * goal.size-cast_of l + 1
+decreases-cast_of l = 8 * goal.size-cast_of l + 1
 
 abbrev pub decreases-with_caveat : goal.decreases-with_caveat
-decreases-with_caveat l = 4 * goal.size-with_caveat l + 1
+decreases-with_caveat l = 8 * goal.size-with_caveat l + 1
 
 abbrev pub decreases-one_of : goal.decreases-one_of
-decreases-one_of l = 4 * max (goal.size-one_of l) (the_size l.of.now) + 3
+decreases-one_of l = 8 * max (goal.size-one_of l) (the_size l.of.now) + 3
 
 abbrev pub decreases-any_equal : goal.decreases-any_equal
-decreases-any_equal l = 4 * goal.size-any_equal l + 2
+decreases-any_equal l = 8 * goal.size-any_equal l + 2
 
 abbrev pub decreases-or_equal : goal.decreases-or_equal
-decreases-or_equal l = 4 * goal.size-or_equal l + 1
+decreases-or_equal l = 8 * goal.size-or_equal l + 1
 
 abbrev pub decreases-first_arm : goal.decreases-first_arm
-decreases-first_arm l = 4 * max (goal.size-first_arm l) (depth_of l.otherwise.now) + 1
+decreases-first_arm l = 8 * max (goal.size-first_arm l) (depth_of l.otherwise.now) + 1
 
 abbrev pub decreases-first_value : goal.decreases-first_value
-decreases-first_value l = 4 * goal.size-first_value l + 1
+decreases-first_value l = 8 * goal.size-first_value l + 1
 
 abbrev pub decreases-over_group : goal.decreases-over_group
-decreases-over_group l = 4 * goal.size-over_group l + 2
+decreases-over_group l = 8 * goal.size-over_group l + 2
 
 abbrev pub decreases-operands_over : goal.decreases-operands_over
-decreases-operands_over l = 4 * goal.size-operands_over l + 1
+decreases-operands_over l = 8 * goal.size-operands_over l + 1
 
 abbrev pub invariant-first_value-loop-item : goal.invariant-first_value-loop-item
 invariant-first_value-loop-item l =
