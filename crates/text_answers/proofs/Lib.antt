@@ -1,0 +1,2 @@
+pub mod TheAnswer
+mod Examples

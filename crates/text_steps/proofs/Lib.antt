@@ -1,0 +1,3 @@
+pub mod Lexed
+pub mod Reading
+pub mod EachText

@@ -1,0 +1,2 @@
+-- that each text has steps or a place where it errs
+pub mod Laws
