@@ -1,0 +1,2 @@
+-- how distinct names are tested
+pub mod Apart
