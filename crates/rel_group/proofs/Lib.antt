@@ -1,0 +1,20 @@
+pub mod Places
+pub mod Comparing
+pub mod Looping
+pub mod KeyOrder
+pub mod Cuts
+pub mod Natural
+pub mod KeyedGroups
+pub mod GroupFits
+pub mod GroupRules
+pub mod DistinctRules
+pub mod ErasedGroup
+pub mod ShownKeys
+pub mod ShownGroup
+pub mod Moved
+pub mod MovedIds
+pub mod MovedValues
+pub mod MovedExpr
+pub mod MovedGroups
+pub mod SameGroup
+mod Examples

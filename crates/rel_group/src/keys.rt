@@ -1,0 +1,102 @@
+//! The columns of a key, by their places.
+ghost use Rattle.std.specs.Prelude.{◌++◌, OnOk, ◌≡◌, ◌-◌, ◌==◌, IsTrue, IfOk, slice_get, take};
+ghost use Rattle.std.specs.Option.{option_copied};
+ghost use Rattle.std.specs.List.{list_any};
+ghost use Rattle.relations.specs.Conditions.{kept_if};
+ghost use Rattle.rel_group.specs.Keys as spec;
+ghost use Rattle.rel_group.specs.Keys.{is_place, items_at, key_of, once};
+
+use dataset_types::MarkedValues;
+use relations::{ColumnRefs, Rel};
+use std::alloc::Global;
+use value_types::{Copied, ListOf, NoMemory};
+
+/// Whether each of these is the place of a column, counted from 1.
+pub fn are_places(rel: &Rel, places: &ColumnRefs) -> bool
+    ensures { result ≡ spec.are_places rel.now.columns places.now }
+{
+    let count = rel.columns().len();
+    places
+        .as_slice()
+        .iter()
+        .all(|place| 1 <= *place && *place as usize <= count)
+}
+
+/// The item at a place, counted from 1; 0 is read as 1.
+pub fn item_at<T>(items: &[T], place: u32) -> Option<&T>
+    ensures { option_copied result ≡ slice_get items.now (place - 1) }
+{
+    items.get((place as usize).saturating_sub(1))
+}
+
+/// The items at these places.
+#[tactic(auto, using(crate::proofs::Places::placing))]
+pub fn items_at<T: Copied + Drop>(
+    alloc: Global,
+    places: &[u32],
+    items: &[T],
+) -> Result<ListOf<T>, NoMemory>
+    ensures { IfOk result (λ xs. xs ≡ items_at places.now items.now) }
+{
+    let mut all = ListOf::new(alloc)?;
+    for place in places {
+        if let Some(item) = item_at(items, *place) {
+            all.push(alloc, item.copied(alloc)?)?;
+        }
+    }
+    Ok(all)
+}
+
+/// The values of a key: those at its places, or all.
+pub fn key_of(
+    alloc: Global,
+    keys: Option<&[u32]>,
+    values: &MarkedValues,
+) -> Result<MarkedValues, NoMemory>
+    ensures { IfOk result (λ k. k ≡ key_of (option_copied keys.entry) values.now) }
+{
+    match keys {
+        None => values.copy(alloc),
+        Some(places) => items_at(alloc, places, values.as_slice()),
+    }
+}
+
+fn came_before(places: &[u32], at: usize, place: u32) -> bool
+    ensures { result ≡ list_any (λ q. q == place) (take at places.now) }
+{
+    places.iter().take(at).any(|other| *other == place)
+}
+
+fn push_if<T: Copied + Drop>(
+    alloc: Global,
+    all: &mut ListOf<T>,
+    item: &T,
+    wanted: bool,
+) -> Result<(), NoMemory>
+    ensures { OnOk result (all.new ≡ all.old ++ kept_if wanted item.now) }
+{
+    if wanted {
+        all.push(alloc, item.copied(alloc)?)?;
+    }
+    Ok(())
+}
+
+/// The items beside their places, each place once.
+#[tactic(auto, using(crate::proofs::Places::dropping))]
+pub fn once<T: Copied + Drop>(
+    alloc: Global,
+    places: &[u32],
+    items: &[T],
+) -> Result<ListOf<T>, NoMemory>
+    ensures { IfOk result (λ xs. xs ≡ once places.now items.now) }
+{
+    let mut all = ListOf::new(alloc)?;
+    for i in 0..places.len() {
+        if items.len() <= i {
+            return Ok(all);
+        }
+        let is_new = !came_before(places, i, places[i]);
+        push_if(alloc, &mut all, &items[i], is_new)?;
+    }
+    Ok(all)
+}

@@ -1,0 +1,16 @@
+//! What is the same for all groups of a query.
+use dataset_types::Picks;
+use expr_meaning::Scope;
+
+/// What HAVING and the items are told beside the group.
+#[derive(Clone, Copy)]
+pub struct Query<'a> {
+    /// The columns of the key, each once.
+    pub columns: &'a Scope,
+    /// The places of the key.
+    pub places: &'a [u32],
+    /// Whether it is uncertain which rows are in a group.
+    pub uncertain: bool,
+    pub picks: &'a Picks,
+    pub cell: u32,
+}
