@@ -23,7 +23,7 @@ given_here true found here known slot now later e = let same : here ≡ known = 
 given_here false found here known slot now later e = later e
 
 -- what is found of a name is what the environment gives it
-given_found : (look : List ℕ → Slot) (asked : List Named) (name : List ℕ) (known : Slot) → Gives look asked → find_slot asked name ≡ Some known → look name ≡ known
+pub given_found : (look : List ℕ → Slot) (asked : List Named) (name : List ℕ) (known : Slot) → Gives look asked → find_slot asked name ≡ Some known → look name ≡ known
 given_found look [] name known g e = cc
 given_found look (a ∷ asked) name known g e =
     given_here (bytes_eq a.name name) (find_slot asked name) a.slot known (look name)

@@ -3,3 +3,4 @@ mod Distinctness
 pub mod Examples
 pub mod RunLemmas
 mod RunLaws
+pub mod WorkLemmas

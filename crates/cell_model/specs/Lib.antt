@@ -1,5 +1,6 @@
--- the serial run, what reads answer, and when a record is valid
+-- the serial run, what reads and works over them answer, and when a record is valid
 pub mod Reading
+pub mod Works
 pub mod Records
 pub mod Runs
 -- how a run goes on, what it answers, and its laws

@@ -21,12 +21,14 @@ abbrev pub doubted : List ℕ → Option TableData → CellResult
 doubted name None = bare (status.Error error.NoDataset)
 doubted name (Some table) = one_write name (record { table = Some table; doubt = true })
 
--- a load gives nothing; of the others, cell 2 is in error, cell 3 reads its name's dataset and writes it in doubt, and each other writes its own
+-- of make cells, cell 2 is in error, cell 3 reads its name's dataset and writes it in doubt, and each other writes its own; any other kind gives nothing
 abbrev pub sample_kind : ℕ → CellKind → (List ℕ → Slot) → CellResult
 sample_kind number (kind.Make name table) look =
     if number == 2 then bare (status.Error error.ZeroDivisor)
     else (if number == 3 then doubted name (look name).table else one_write name (record { table = Some table; doubt = false }))
 sample_kind number (kind.Load name bytes types repair) look = bare status.Ok
+sample_kind number (kind.Vizual command) look = bare status.Ok
+sample_kind number (kind.Sql text into) look = bare status.Ok
 
 abbrev pub sample_meaning : Cell → (List ℕ → Slot) → CellResult
 sample_meaning cell look = sample_kind cell.id cell.kind look
@@ -34,6 +36,8 @@ sample_meaning cell look = sample_kind cell.id cell.kind look
 abbrev pub sample_reads : ℕ → CellKind → List (List ℕ)
 sample_reads number (kind.Make name table) = if number == 3 then name ∷ [] else []
 sample_reads number (kind.Load name bytes types repair) = []
+sample_reads number (kind.Vizual command) = []
+sample_reads number (kind.Sql text into) = []
 
 abbrev pub sample_names : Cell → (List ℕ → Slot) → List (List ℕ)
 sample_names cell look = sample_reads cell.id cell.kind
@@ -41,6 +45,8 @@ sample_names cell look = sample_reads cell.id cell.kind
 abbrev pub sample_writes : CellKind → Estimate
 sample_writes (kind.Make name table) = record { reads = name ∷ []; writes = name ∷ [] }
 sample_writes (kind.Load name bytes types repair) = record { reads = []; writes = [] }
+sample_writes (kind.Vizual command) = record { reads = []; writes = [] }
+sample_writes (kind.Sql text into) = record { reads = []; writes = [] }
 
 abbrev pub sample_estimate : Cell → Estimate
 sample_estimate cell = sample_writes cell.kind
@@ -63,6 +69,8 @@ choice_is_bare false false name table here = λ e. not_so e
 kind_is_bare : (number : ℕ) (k : CellKind) (look : List ℕ → Slot) → IsBare (sample_kind number k look)
 kind_is_bare number (kind.Make name table) look = choice_is_bare (number == 2) (number == 3) name table (look name).table
 kind_is_bare number (kind.Load name bytes types repair) look = λ e. not_so e
+kind_is_bare number (kind.Vizual command) look = λ e. not_so e
+kind_is_bare number (kind.Sql text into) look = λ e. not_so e
 
 pub sample_is_bare : (cell : Cell) (look : List ℕ → Slot) → IsBare (sample_meaning cell look)
 sample_is_bare cell look = kind_is_bare cell.id cell.kind look

@@ -2,8 +2,9 @@
 ghost use Rattle.std.specs.Prelude.{◌≡◌, IfOk};
 
 use dataset_types::{Picks, Repair, Table, Types};
+use sheet_commands::Command;
 use std::alloc::Global;
-use value_types::{ArcOf, Bytes, ListOf, Name, NoMemory};
+use value_types::{ArcOf, Bytes, ListOf, Name, NoMemory, Words};
 
 /// A cell of a notebook. One cell may stand in many versions.
 #[derive(Drop)]
@@ -28,6 +29,13 @@ pub enum CellKind {
         bytes: ArcOf<Bytes>,
         types: Types,
         repair: Repair,
+    },
+    /// Does a spreadsheet command.
+    Vizual(Command),
+    /// Writes what a SELECT gives under a name.
+    Sql {
+        text: Words,
+        into: Name,
     },
 }
 
@@ -54,6 +62,11 @@ impl CellKind {
                 bytes: bytes.copy(alloc)?,
                 types: types.copy(alloc)?,
                 repair: *repair,
+            }),
+            CellKind::Vizual(command) => Ok(CellKind::Vizual(command.copy(alloc)?)),
+            CellKind::Sql { text, into } => Ok(CellKind::Sql {
+                text: text.copy(alloc)?,
+                into: into.copy(),
             }),
         }
     }

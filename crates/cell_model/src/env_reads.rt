@@ -70,4 +70,8 @@ impl<'e> Reads for EnvReads<'e> {
         note(alloc, &mut self.asked, name, &slot)?;
         Ok(slot)
     }
+
+    fn answered(&self, alloc: Global) -> Result<Slots, NoMemory> {
+        self.asked.copy(alloc)
+    }
 }

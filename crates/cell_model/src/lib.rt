@@ -17,6 +17,7 @@ mod run;
 mod tests;
 mod trail;
 mod work;
+mod work_fault;
 
 pub use cell::{Cell, CellKind, Cells};
 pub use cell_result::{CellResult, CellStatus, Line, Lines, Results, Writes};
@@ -28,3 +29,4 @@ pub use refusal::EditRefusal;
 pub use run::{Policy, Ran, RunAll, Settled, run_all, run_on};
 pub use trail::{Step, Trail, front_of};
 pub use work::{CellWork, Estimate};
+pub use work_fault::WorkFault;

@@ -3,7 +3,7 @@ ghost use Rattle.std.specs.Prelude.{◌≡◌, ℕ, List, IfOk, IfErr, IfSome, N
 ghost use Rattle.cell_model.specs.Reading.{Answers, Ends};
 ghost use Rattle.cell_model.specs.declared.reads.Ended.TheVariants.{NoMemory as Starves};
 
-use dataset_types::Slot;
+use dataset_types::{Slot, Slots};
 use std::alloc::Global;
 use value_types::{Name, NoMemory};
 
@@ -67,4 +67,8 @@ pub trait Reads {
             (asked self.new ≡ asked self.old) × Ends e (ended self.new)) }
         ensures source { source self.new ≡ source self.old }
         ensures agrees { IfOk result (λ s. IfSome (source self.old) (λ look. look name.now ≡ s)) };
+
+    /// The names and slots that were answered so far, written again: what a record keeps of a run.
+    fn answered(&self, alloc: Global) -> Result<Slots, NoMemory>
+        ensures { IfOk result (λ slots. slots ≡ asked self.now) };
 }

@@ -4,7 +4,7 @@ ghost use Rattle.cell_model.specs.Sample.{one_write, doubted};
 
 use super::*;
 use cell_errors::CellError;
-use dataset_types::{Columns, Env, Named, Picks, Rows, Slot, Slots, Table, slot_same};
+use dataset_types::{Columns, Env, Picks, Rows, Slot, Slots, Table, slot_same};
 use std::alloc::Global;
 use std::process::Abort;
 use std::test::*;
@@ -44,7 +44,7 @@ impl CellWork for Sample {
             }
             3 => {
                 let slot = reads.read(alloc, name)?;
-                let asked = one_slot(alloc, name, &slot)?;
+                let asked = reads.answered(alloc)?;
                 let outcome = doubted(alloc, name, &slot)?;
                 Ok(Record::new(cell.copy(alloc)?, asked, outcome))
             }
@@ -75,20 +75,6 @@ fn one_name(alloc: Global, name: &Name) -> Result<Names, NoMemory>
     let mut names = Names::new(alloc)?;
     names.push(alloc, name.copy())?;
     Ok(names)
-}
-
-fn one_slot(alloc: Global, name: &Name, slot: &Slot) -> Result<Slots, NoMemory>
-    ensures { IfOk result (λ slots. slots ≡ record { name = name.now; slot = slot.now } ∷ []) }
-{
-    let mut slots = Slots::new(alloc)?;
-    slots.push(
-        alloc,
-        Named {
-            name: name.copy(),
-            slot: slot.copy(alloc)?,
-        },
-    )?;
-    Ok(slots)
 }
 
 fn one_write(

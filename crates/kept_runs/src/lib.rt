@@ -5,5 +5,7 @@
 #![tactic(auto)]
 
 mod kept;
+#[cfg(test)]
+mod tests;
 
 pub use kept::Kept;
