@@ -1,0 +1,11 @@
+pub mod KeyNames
+pub mod KeyPlaces
+pub mod Columns
+pub mod Joinable
+pub mod Planned
+pub mod NamesOnce
+pub mod NamesRead
+pub mod Rels
+pub mod Erased
+pub mod Same
+mod Examples

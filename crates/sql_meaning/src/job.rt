@@ -1,0 +1,11 @@
+//! What stays the same while a SELECT is run.
+use crate::source::Source;
+use dataset_types::Picks;
+
+/// The datasets that were read, and what is picked in the cell.
+#[derive(Clone, Copy)]
+pub struct Job<'a> {
+    pub sources: &'a [Source],
+    pub picks: &'a Picks,
+    pub cell: u32,
+}

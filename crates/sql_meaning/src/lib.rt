@@ -1,0 +1,21 @@
+//! What a SELECT gives: its datasets are read, its plan is made, and the steps are taken.
+//!
+//! Start at `run_select`, and read `specs/Steps.antt`: one text says in which order the steps come, and is read with marks in
+//! `specs/Select.antt` and without them in `specs/Plain.antt`. `laws.rt` says how the two belong together. The steps
+//! themselves are not here, but in `rel_ops`, `rel_join` and `rel_group`, and the static checks are in `sql_plan`.
+#![tactic(auto)]
+
+mod cores;
+mod finish;
+mod job;
+mod laws;
+mod reading;
+mod run;
+mod source;
+mod tables;
+#[cfg(test)]
+mod tests;
+
+pub use laws::law_of_select;
+pub use run::run_select;
+pub use source::{Source, Sources};
