@@ -1,0 +1,10 @@
+pub mod Collecting
+pub mod Laying
+pub mod Places
+pub mod Names
+pub mod PlanRules
+pub mod TableRules
+pub mod ChangeLaws
+pub mod FormulaLaws
+pub mod FormulaCalls
+mod Examples

@@ -1,0 +1,12 @@
+use Rattle.column_edits.specs.Plans.{deletion}
+use Rattle.column_edits.proofs.ChangeLaws.{change_erases, change_shows, change_keeps_shown}
+use Rattle.column_edits.proofs.laws.law_of_deletion.Goals as goal
+
+pub returns-clause-erases : goal.returns-clause-erases
+returns-clause-erases c = change_erases (deletion c.args.name.now)
+
+pub returns-clause-shows : goal.returns-clause-shows
+returns-clause-shows c = change_shows (deletion c.args.name.now)
+
+pub returns-clause-same : goal.returns-clause-same
+returns-clause-same c = change_keeps_shown (deletion c.args.name.now)

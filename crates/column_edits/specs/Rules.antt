@@ -1,0 +1,32 @@
+-- What a table's parts and a layout have to keep.
+use Rattle.std.specs.Prelude.{◌≡◌, false, IsTrue, List, map}
+use Rattle.dataset_types.specs.declared.column.Column.{Column}
+use Rattle.dataset_types.specs.declared.row.Row.{Row}
+use Rattle.dataset_types.specs.Tables.{TableData, Distinct, column_names, row_ids, row_fits, rows_fit, all_sure}
+use Rattle.expr_meaning.specs.Names.{Name}
+use Rattle.cell_errors.specs.Answers.{Answer}
+use Rattle.column_edits.specs.declared.computing.InRow.{InRow}
+use Rattle.column_edits.specs.declared.layout.LaidColumn.{LaidColumn}
+use Rattle.column_edits.specs.Layout.{columns_of}
+use Rattle.column_edits.specs.Changes.{blank, laid_row}
+use Rattle.column_edits.specs.Formula.{row_with}
+
+-- the rules of a dataset, but for its limits
+pub record KeepsRules (t : TableData) : Type 0 where
+  pub names : Distinct (column_names t.columns)
+  pub ids : Distinct (row_ids t.rows)
+  pub fitting : IsTrue (rows_fit t.columns t.rows)
+  pub sure : t.is_open ≡ false → IsTrue (all_sure t.rows)
+
+-- the names of the columns of a layout
+abbrev pub names_of : List LaidColumn → List Name
+names_of layout = map (λ c. c.column.name) layout
+
+-- a layout for tables of these columns: its names are distinct, and under it rows that fit the columns fit
+pub record IsLayout (columns : List Column) (layout : List LaidColumn) : Type 0 where
+  pub names : Distinct (names_of layout)
+  pub fitting : (r : Row) → IsTrue (row_fits columns r) → IsTrue (row_fits (columns_of layout) (laid_row layout blank r))
+
+-- a row with the value of a formula
+abbrev pub row_by : InRow → Row → Answer Row
+row_by how = row_with how.scope.now how.layout.now how.expr.now how.picks.now how.cell how.kind

@@ -1,0 +1,11 @@
+pub mod PutIn
+pub mod Mapped
+pub mod Sures
+pub mod Ids
+pub mod Results
+pub mod InsertLaws
+pub mod DeleteLaws
+pub mod MoveLaws
+pub mod SetLaws
+pub mod SortLaws
+mod Examples

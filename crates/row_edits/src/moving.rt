@@ -1,0 +1,78 @@
+//! `move_row`.
+ghost use Rattle.std.specs.Prelude.{◌≡◌, IfOk};
+ghost use Rattle.cell_errors.specs.Answers.{Gives};
+ghost use Rattle.row_edits.specs.Rows as spec;
+ghost use Rattle.row_edits.specs.Move as move;
+ghost use Rattle.row_edits.specs.Tables.{row_id};
+
+use crate::by_text::{is_place, is_there, is_unsure, put_after, take_out};
+use crate::whole::limited;
+use cell_errors::{CellError, EvalFault};
+use dataset_types::{Row, Rows, Table};
+use std::alloc::Global;
+use value_types::{NoMemory, Words};
+
+fn is_itself(row: &Words, after: &Option<Words>) -> bool
+    ensures { result ≡ spec.is_itself row.now after.now }
+{
+    match after {
+        None => false,
+        Some(text) => row.as_text() == text.as_text(),
+    }
+}
+
+fn put(alloc: Global, row: &Words, after: &Option<Words>, rows: Rows) -> Result<Rows, NoMemory>
+    ensures { IfOk result (λ all. all ≡ spec.put row_id row.now after.now rows) }
+{
+    if is_itself(row, after) {
+        return Ok(rows);
+    }
+    let out = take_out(alloc, row, rows)?;
+    put_after(alloc, after, out.taken, out.others)
+}
+
+fn moved(alloc: Global, row: &Words, after: &Option<Words>, rows: &Rows) -> Result<Rows, EvalFault>
+    ensures { Gives result (spec.moved row_id row.now after.now rows.now) }
+{
+    if !is_there(alloc, row, rows.as_slice())? || !is_place(alloc, after, rows.as_slice())? {
+        return Err(EvalFault::Error(CellError::NoRow));
+    }
+    Ok(put(alloc, row, after, rows.copy(alloc)?)?)
+}
+
+fn follows_unsure(
+    alloc: Global,
+    row: &Words,
+    after: &Option<Words>,
+    rows: &[Row],
+) -> Result<bool, NoMemory>
+    ensures { IfOk result (λ b. b ≡ move.follows_unsure row.now after.now rows.now) }
+{
+    Ok(!is_itself(row, after) && is_unsure(alloc, after, rows)?)
+}
+
+/// A dataset with a row put after another, or first. A row that is put after itself stays where it is.
+///
+/// - Shape: rows are given by their ids' texts.
+/// - Marks: after another row that is unsure the order of rows is uncertain.
+/// - Error: `NoRow` where either row isn't there.
+/// - Source: docs/EDITING.md.
+pub fn move_row(
+    alloc: Global,
+    table: &Table,
+    row: &Words,
+    after: &Option<Words>,
+) -> Result<Table, EvalFault>
+    ensures { Gives result (move.row_moved table.now row.now after.now) }
+{
+    table.law_of_rules();
+    let rows = moved(alloc, row, after, table.rows())?;
+    let is_loose = table.is_loose() | follows_unsure(alloc, row, after, table.rows().as_slice())?;
+    limited(
+        alloc,
+        table.columns().copy(alloc)?,
+        rows,
+        table.is_open(),
+        is_loose,
+    )
+}

@@ -1,0 +1,50 @@
+//! `sort`.
+ghost use Rattle.std.specs.Prelude.{◌≤◌, length};
+ghost use Rattle.cell_errors.specs.Answers.{Gives};
+ghost use Rattle.row_edits.specs.Sort as spec;
+ghost use Rattle.row_edits.specs.Sort.{rows_sorted};
+
+use crate::columns::find_column;
+use cell_errors::EvalFault;
+use dataset_types::{Column, Table};
+use rel_ops::sort as sort_rel;
+use relations::{Rel, SortKey, SortKeys};
+use sheet_commands::{SortName, SortNames};
+use std::alloc::Global;
+
+fn sort_key(columns: &[Column], by: &SortName) -> Result<SortKey, EvalFault>
+    requires { length columns.now ≤ 32 }
+    ensures { Gives result (spec.sort_key columns.now by.now) }
+{
+    let found = find_column(columns, &by.name)?;
+    Ok(SortKey {
+        column: found.place as u32 + 1,
+        descending: by.descending,
+    })
+}
+
+#[tactic(auto, using(rel_ops::proofs::Collecting::collecting))]
+fn sort_keys(alloc: Global, columns: &[Column], by: &[SortName]) -> Result<SortKeys, EvalFault>
+    requires { length columns.now ≤ 32 }
+    ensures { Gives result (spec.sort_keys columns.now by.now) }
+{
+    let mut keys = SortKeys::new(alloc)?;
+    for one in by {
+        keys.push(alloc, sort_key(columns, one)?)?;
+    }
+    Ok(keys)
+}
+
+/// A dataset with its rows in the order of named columns, as ORDER BY gives it.
+///
+/// - Marks: loose where it was, or where a sure row is placed by a marked value.
+/// - Error: `NoColumn` where a named column isn't there.
+/// - Source: docs/EDITING.md; docs/SELECT.md.
+pub fn sort(alloc: Global, table: &Table, by: &SortNames) -> Result<Table, EvalFault>
+    ensures { Gives result (rows_sorted table.now by.now) }
+{
+    table.law_of_rules();
+    let keys = sort_keys(alloc, table.columns().as_slice(), by.as_slice())?;
+    let rel = Rel::of_table(alloc, table, &None)?;
+    sort_rel(alloc, rel, &keys)?.into_table(alloc)
+}

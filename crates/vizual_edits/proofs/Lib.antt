@@ -1,0 +1,3 @@
+pub mod Erasing
+pub mod Showing
+pub mod Fixing
