@@ -48,7 +48,7 @@ row_back row seen vs same all =
     let each = each_back value_of 1 (λ (m : Marked). m.value) row.values seen vs same all in
     record { read = each.0; depth = omega (arith, each.1) }
 
-as_they_are : {A : Type 0} (xs : List A) → map (λ x. x) xs ≡ xs
+pub as_they_are : {A : Type 0} (xs : List A) → map (λ x. x) xs ≡ xs
 as_they_are [] = refl
 as_they_are (x ∷ xs) = ap (λ l. x ∷ l) (as_they_are xs)
 

@@ -1,7 +1,6 @@
 -- Edits, and their lines, are read back from their JSON.
 use Rattle.std.proofs.Common.{◌≡◌, ℕ, ◌<◌, ◌≤◌, ◌^◌, List, Some, Ok, codes, refl, sym, subst, arith}
 use Rattle.std.specs.Prelude.{IsUtf8}
-use Rattle.std.proofs.lemmas.Bool.{lt-ltb}
 use Rattle.std.proofs.lemmas.Str.{is_utf8-from_IsUtf8}
 use Rattle.serde_json.specs.Data.{Data, unsigned, number, string, object, member, no_members, depth}
 use Rattle.serde_json.specs.Read.{read, max_depth}
@@ -11,7 +10,8 @@ use Rattle.edit_wire.specs.declared.edit.EditKind.TheVariants as kind
 use Rattle.edit_wire.specs.Cells.{cell_of}
 use Rattle.edit_wire.specs.Values.{name_in}
 use Rattle.json_glance.specs.Line.{json_of}
-use Rattle.edit_wire.specs.Wire.{in_u32, edit_on, edit_in, edit_of}
+use Rattle.edit_wire.specs.Wire.{edit_on, edit_in, edit_of}
+use Rattle.edit_wire.proofs.Ranges.{in_range}
 use Rattle.edit_wire.specs.Written.{IsJsonOf}
 
 -- ---- objects of an edit's fields
@@ -25,9 +25,6 @@ append_back branch cell d named celled name of made =
       read = rw (name.read, of.read) refl;
       depth = omega (arith, name.depth, of.depth);
     })
-
-in_range : (n : ℕ) → n < 2 ^ 32 → in_u32 n ≡ Some n
-in_range n small = rw (lt-ltb n (2 ^ 32) small) refl
 
 pub insert_back : (branch : List ℕ) (at : ℕ) (cell : EditCell) (d named celled : Data) → at < 2 ^ 32 → IsJsonOf name_in 0 branch named → IsJsonOf cell_of 4 cell celled
     → d ≡ object (member (codes "at") (number (unsigned at)) (member (codes "branch") named (member (codes "cell") celled (member (codes "edit") (string (codes "insert")) no_members))))

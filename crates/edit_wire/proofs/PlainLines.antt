@@ -1,7 +1,7 @@
 -- Each edit of a line is one that has a line.
-use Rattle.std.proofs.Common.{◌≡◌, ℕ, ◌+◌, ◌≤◌, ◌&&◌, List, [], length, Bool, true, false, refl, ap, sym, subst, ◌∙◌, arith, Option, Some, None, option_map}
+use Rattle.std.proofs.Common.{◌≡◌, ℕ, ◌+◌, ◌≤◌, ◌&&◌, List, [], length, false, refl, ap, sym, subst, ◌∙◌, arith, Option, Some, None, option_map}
 use Rattle.std.specs.Prelude.{option_and_then, nat_le, if◌then◌else◌, codes}
-use Rattle.std.specs.Option.{option_or, option_map_or}
+use Rattle.std.specs.Option.{option_map_or}
 use Rattle.std.specs.Str.{bytes_eq}
 use Rattle.std.proofs.lemmas.Bool.{and_parts, leb-true}
 use Rattle.serde_json.specs.Data.{Data, Items}
@@ -20,17 +20,17 @@ use Rattle.edit_wire.specs.declared.edit.EditKind.{EditKind}
 use Rattle.edit_wire.specs.declared.edit.EditKind.TheVariants as edit
 use Rattle.edit_wire.specs.Json.{has_members, field, field_or, all_of}
 use Rattle.edit_wire.specs.Make.{column_in, is_heading, heading_of, rows_from, limited, table_from, table_in, make_of}
-use Rattle.edit_wire.specs.Cells.{cell_of}
+use Rattle.edit_wire.specs.Cells.{vizual, cell_of}
+use Rattle.edit_wire.specs.Commands.{command_of}
+use Rattle.edit_wire.specs.Sql.{sql_of}
 use Rattle.edit_wire.specs.Loads.{declared_in, types_of, types_in, repair_in, file_named, file_in, load_members, load_from, load_of}
 use Rattle.edit_wire.specs.Plain.{IsPlainTable, IsPlainCell, IsPlainKind, IsPlainEdit}
 use Rattle.edit_wire.specs.Values.{name_in}
-use Rattle.edit_wire.specs.Wire.{position_in, position_and_cell, append_of, insert_of, update_of, delete_of, branch_of, kind_named, kind_of, edit_on, edit_in}
+use Rattle.edit_wire.specs.Numbers.{position_in}
+use Rattle.edit_wire.specs.Wire.{position_and_cell, append_of, insert_of, update_of, delete_of, branch_of, kind_named, kind_of, edit_on, edit_in}
 use Rattle.edit_wire.proofs.Made.{AreRows, are_rows}
-use Rattle.edit_wire.proofs.Options.{mapped, chained}
-
-taken : {A : Type 0} (b : Bool) (x y : A) → (if b then Some x else None) ≡ Some y → (b ≡ true) × (x ≡ y)
-taken true x y e = (refl, cc)
-taken false x y e = absurd (cc)
+use Rattle.edit_wire.proofs.Options.{mapped, chained, taken, within, which, first_of_two}
+use Rattle.edit_wire.proofs.PlainCommands.{command_plain}
 
 heading_some : (heads : Items) (cs : List Column) → heading_of heads ≡ Some cs → 1 ≤ length cs
 heading_some heads cs e =
@@ -57,20 +57,6 @@ table_plain heads ds t e =
     let made = table_of heading.0 rows.0 false false in
     let is = taken (within_limits made) made t rows.2 in
     subst IsPlainTable is.1 (plain_parts heading.0 rows.0 (heading_some heads heading.0 heading.1) (are_rows heading.0 0 ds rows.0 rows.1).0)
-
--- ---- what an answer that is there passed
-
-within : {A : Type 0} (b : Bool) (o : Option A) (x : A) → (if b then o else None) ≡ Some x → o ≡ Some x
-within true o x e = e
-within false o x e = absurd (cc)
-
-which : {A P : Type 0} (b : Bool) (o p : Option A) (x : A) → (if b then o else p) ≡ Some x → (o ≡ Some x → P) → (p ≡ Some x → P) → P
-which true o p x e first second = first e
-which false o p x e first second = second e
-
-first_of_two : {A P : Type 0} (o p : Option A) (x : A) → option_or o p ≡ Some x → (o ≡ Some x → P) → (p ≡ Some x → P) → P
-first_of_two None p x e first second = second e
-first_of_two (Some y) p x e first second = first e
 
 -- a field that may be missing
 told : {A P : Type 0} (reader : Data → Option A) (o : Option Data) (missing y : A) → option_map_or reader o (Some missing) ≡ Some y
@@ -122,11 +108,21 @@ load_plain d c e =
     let there = chained file_in (get (codes "file") d) filed.0 filed.1 in
     from_plain named.0 filed.0 d c (file_plain there.0 filed.0 there.2) filed.2
 
+sql_plain : (d : Data) (k : CellKind) → sql_of d ≡ Some k → IsPlainCell (from.Other k)
+unfolding sql_of
+sql_plain d k e =
+    let text = chained (λ (text : List ℕ). option_map (cell.Sql text) (field name_in (codes "into") d)) (field as_str (codes "sql") d) k (within (has_members 2 d) _ k e) in
+    let made = mapped (cell.Sql text.0) (field name_in (codes "into") d) k text.2 in
+    subst (λ (kind : CellKind). IsPlainCell (from.Other kind)) {x = cell.Sql text.0 made.0} (sym made.2) tt
+
 cell_plain : (d : Data) (c : EditCell) → cell_of d ≡ Some c → IsPlainCell c
 cell_plain d c e =
-    first_of_two (option_map from.Other (make_of d)) (load_of d) c e
+    first_of_two (option_map from.Other (make_of d)) _ c e
     (λ e. let made = mapped from.Other (make_of d) c e in subst IsPlainCell (sym made.2) (make_plain d made.0 made.1))
-    (load_plain d c)
+    (λ e. first_of_two (load_of d) _ c e (load_plain d c)
+    (λ e. first_of_two (option_map vizual (command_of d)) (option_map from.Other (sql_of d)) c e
+    (λ e. let made = mapped vizual (command_of d) c e in subst IsPlainCell (sym made.2) (command_plain d made.0 made.1))
+    (λ e. let made = mapped from.Other (sql_of d) c e in subst IsPlainCell (sym made.2) (sql_plain d made.0 made.1))))
 
 field_plain : (d : Data) (c : EditCell) → field cell_of (codes "cell") d ≡ Some c → IsPlainCell c
 field_plain d c e = let there = chained cell_of (get (codes "cell") d) c e in cell_plain there.0 c there.2

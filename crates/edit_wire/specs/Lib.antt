@@ -3,7 +3,13 @@ pub mod Wire
 pub mod Cells
 pub mod Make
 pub mod Loads
+pub mod Commands
+pub mod ColumnCommands
+pub mod RowCommands
+pub mod DatasetCommands
+pub mod Sql
 pub mod Values
+pub mod Numbers
 pub mod Json
 -- which edits have a line
 pub mod Plain

@@ -1,8 +1,8 @@
 -- The edit of a line (docs/FORMATS.md, "Edit lines").
-use Rattle.std.specs.Prelude.{ℕ, ◌^◌, ◌||◌, List, Bool, codes, nat_lt, if◌then◌else◌, Option, Some, None, option_map, option_and_then, ok_or, Result, Err}
+use Rattle.std.specs.Prelude.{ℕ, ◌||◌, List, Bool, codes, if◌then◌else◌, Option, Some, None, option_map, option_and_then, ok_or, Result, Err}
 use Rattle.std.specs.Str.{bytes_eq}
 use Rattle.serde_json.specs.Data.{Data}
-use Rattle.serde_json.specs.Find.{as_number, as_str, as_u64}
+use Rattle.serde_json.specs.Find.{as_str}
 use Rattle.cell_model.specs.declared.refusal.EditRefusal.{EditRefusal}
 use Rattle.cell_model.specs.declared.refusal.EditRefusal.TheVariants as refusal
 use Rattle.json_glance.specs.Line.{json_of}
@@ -12,15 +12,8 @@ use Rattle.edit_wire.specs.declared.edit.EditKind.{EditKind}
 use Rattle.edit_wire.specs.declared.edit.EditKind.TheVariants as edit
 use Rattle.edit_wire.specs.Json.{with_members, field}
 use Rattle.edit_wire.specs.Cells.{cell_of}
+use Rattle.edit_wire.specs.Numbers.{position_in}
 use Rattle.edit_wire.specs.Values.{name_in}
-
--- a number of u32
-abbrev pub in_u32 : ℕ → Option ℕ
-in_u32 n = if nat_lt n (2 ^ 32) then Some n else None
-
--- a whole number from 0 to 4,294,967,295
-abbrev pub position_in : Data → Option ℕ
-position_in d = option_and_then in_u32 (option_and_then as_u64 (as_number d))
 
 -- the fields that an edit has, beside `edit` and `branch`, where it has no others
 

@@ -8,9 +8,11 @@ ghost use Rattle.edit_wire.specs.Wire.{edit_on, edit_in, edit_of};
 ghost use Rattle.edit_wire.specs.Written.{IsJsonOf};
 ghost use Rattle.edit_wire.specs.declared.edit.EditKind.TheVariants as kind;
 
+use crate::command_json::command_json;
 use crate::edit::{Edit, EditCell, EditKind};
 use crate::load_json::load_json;
 use crate::make_json::make_json;
+use crate::sql::sql_json;
 use crate::to_json::ToJson;
 use cell_model::CellKind;
 use serde_json::{Map, Value as Json, put};
@@ -29,6 +31,8 @@ fn cell_json(alloc: Global, cell: &EditCell) -> Result<Json, NoMemory>
             repair,
         } => load_json(alloc, name, file, types, *repair),
         EditCell::Other(CellKind::Make { name, table }) => make_json(alloc, name, table.get()),
+        EditCell::Other(CellKind::Vizual(command)) => command_json(alloc, command),
+        EditCell::Other(CellKind::Sql { text, into }) => sql_json(alloc, text, into),
         EditCell::Other(CellKind::Load { .. }) => unreachable!(),
     }
 }

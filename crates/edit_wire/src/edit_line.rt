@@ -3,15 +3,17 @@ ghost use Rattle.std.specs.Prelude.{◌≡◌, IfOk};
 ghost use Rattle.serde_json.specs.View.{view};
 ghost use Rattle.edit_wire.specs.Answers.{Gives};
 ghost use Rattle.edit_wire.specs.Cells as cells;
-ghost use Rattle.edit_wire.specs.Json as fields;
 ghost use Rattle.edit_wire.specs.Plain.{IsPlainEdit};
 ghost use Rattle.edit_wire.specs.Wire as spec;
 
+use crate::commands::command_of;
 use crate::edit::{Edit, EditCell, EditFault, EditKind};
 use crate::from_json::{FromJson, field, has_members, text_field};
 use crate::load::load_of;
 use crate::make::make_of;
-use cell_model::EditRefusal;
+use crate::position::position_field;
+use crate::sql::sql_of;
+use cell_model::{CellKind, EditRefusal};
 use json_glance::{Glance, glance_at, json_of};
 use serde_json::Value as Json;
 use std::alloc::Global;
@@ -21,29 +23,19 @@ impl FromJson for EditCell {
     ghost meaning = { cells.cell_of };
 
     fn from_json(alloc: Global, json: &Json) -> Result<Option<EditCell>, NoMemory> {
-        match make_of(alloc, json)? {
-            Some(kind) => Ok(Some(EditCell::Other(kind))),
-            None => load_of(alloc, json),
+        if let Some(kind) = make_of(alloc, json)? {
+            return Ok(Some(EditCell::Other(kind)));
         }
-    }
-}
-
-fn position_of(json: &Json) -> Option<u32>
-    ensures { result ≡ spec.position_in (view json.now) }
-{
-    match json.as_u64() {
-        Some(n) => u32::try_from(n).ok(),
-        None => None,
-    }
-}
-
-/// The position that a field is.
-pub fn position_field(json: &Json, name: &str) -> Option<u32>
-    ensures { result ≡ fields.field spec.position_in name.now (view json.now) }
-{
-    match json.get(name) {
-        Some(value) => position_of(value),
-        None => None,
+        if let Some(load) = load_of(alloc, json)? {
+            return Ok(Some(load));
+        }
+        if let Some(command) = command_of(alloc, json)? {
+            return Ok(Some(EditCell::Other(CellKind::Vizual(command))));
+        }
+        match sql_of(alloc, json)? {
+            Some(kind) => Ok(Some(EditCell::Other(kind))),
+            None => Ok(None),
+        }
     }
 }
 

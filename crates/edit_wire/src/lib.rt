@@ -4,6 +4,13 @@
 //! says it in words. Whether an edit is accepted is not here, but in `version_tree`.
 #![tactic(auto)]
 
+mod column_commands;
+mod columns_json;
+mod command_fields;
+mod command_json;
+mod commands;
+mod dataset_commands;
+mod datasets_json;
 mod edit;
 mod edit_json;
 mod edit_line;
@@ -13,8 +20,14 @@ mod load_json;
 mod make;
 mod make_json;
 mod picks;
+mod position;
+mod row_commands;
+mod rows_json;
+mod sql;
 #[cfg(test)]
 mod tests;
+#[cfg(test)]
+mod tests_commands;
 #[cfg(test)]
 mod tests_loads;
 #[cfg(test)]

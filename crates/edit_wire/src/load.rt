@@ -6,6 +6,7 @@ ghost use Rattle.edit_wire.specs.Loads as spec;
 use crate::edit::EditCell;
 use crate::from_json::{FromJson, all_of, counted, field, field_or, has_members, text_field};
 use crate::make::type_named;
+use crate::value::words_of;
 use dataset_types::{Repair, Types};
 use serde_json::Value as Json;
 use std::alloc::Global;
@@ -62,9 +63,7 @@ fn file_named(alloc: Global, text: &str) -> Result<Option<Words>, NoMemory>
     if text.is_empty() || text.len() > 255 {
         return Ok(None);
     }
-    let mut file = Words::new(alloc)?;
-    file.push_text(alloc, text)?;
-    Ok(Some(file))
+    Ok(Some(words_of(alloc, text)?))
 }
 
 /// The load of a name and a file, with what is said of types and repair.

@@ -6,8 +6,8 @@ ghost use Rattle.edit_wire.specs.Json as fields;
 ghost use Rattle.edit_wire.specs.PicksFile as spec;
 ghost use Rattle.edit_wire.specs.declared.picks.PicksFault.TheVariants.{NoMemory as Starves};
 
-use crate::edit_line::position_field;
 use crate::from_json::has_members;
+use crate::position::position_field;
 use crate::value::value_field;
 use dataset_types::{Choice, Pick, Picks, Site};
 use json_glance::json_of;

@@ -79,6 +79,8 @@ fn push_cell(alloc: Global, out: &mut Words, cell: &EditCell) -> Result<(), NoMe
             push_table(alloc, out, table.get())
         }
         EditCell::Other(CellKind::Load { .. }) => out.push_text(alloc, " bytes of a load"),
+        EditCell::Other(CellKind::Vizual(_)) => out.push_text(alloc, " a command"),
+        EditCell::Other(CellKind::Sql { .. }) => out.push_text(alloc, " a SELECT"),
     }
 }
 

@@ -1,7 +1,6 @@
 //! Values in JSON, fitted to the type of their column.
 ghost use Rattle.std.specs.Prelude.{◌≡◌, IfOk, option_and_then};
 ghost use Rattle.serde_json.specs.View.{view};
-ghost use Rattle.value_types.specs.declared.value.Value.TheVariants.{Text};
 ghost use Rattle.dataset_types.specs.Fitting as fitting;
 ghost use Rattle.edit_wire.specs.Json as fields;
 ghost use Rattle.edit_wire.specs.Values as spec;
@@ -36,12 +35,13 @@ fn fixed_in(json: &Json) -> Option<i64>
     }
 }
 
-fn text_value(alloc: Global, text: &str) -> Result<Value, NoMemory>
-    ensures { IfOk result (λ v. v ≡ Text text.now) }
+/// A text of its own.
+pub fn words_of(alloc: Global, text: &str) -> Result<Words, NoMemory>
+    ensures { IfOk result (λ words. words ≡ text.now) }
 {
     let mut words = Words::new(alloc)?;
     words.push_text(alloc, text)?;
-    Ok(Value::Text(words))
+    Ok(words)
 }
 
 fn value_of(alloc: Global, json: &Json) -> Result<Option<Value>, NoMemory>
@@ -51,7 +51,7 @@ fn value_of(alloc: Global, json: &Json) -> Result<Option<Value>, NoMemory>
         Json::Null => Ok(Some(Value::Null)),
         Json::Bool(truth) => Ok(Some(Value::Bool(*truth))),
         Json::Number(number) => Ok(number.as_i64().map(Value::Int)),
-        Json::String(text) => Ok(Some(text_value(alloc, text.as_str())?)),
+        Json::String(text) => Ok(Some(Value::Text(words_of(alloc, text.as_str())?))),
         _ => Ok(fixed_in(json).map(Value::Fixed)),
     }
 }

@@ -1,0 +1,68 @@
+//! Spreadsheet cells as JSON.
+ghost use Rattle.std.specs.Prelude.{IfOk};
+ghost use Rattle.serde_json.specs.View.{view};
+ghost use Rattle.edit_wire.specs.Cells.{vizual, cell_of};
+ghost use Rattle.edit_wire.specs.Plain.{IsPlainCommand};
+ghost use Rattle.edit_wire.specs.Written.{IsJsonOf};
+
+use crate::columns_json::{
+    delete_column_json, formula_json, insert_column_json, keep_columns_json, move_column_json,
+    rename_column_json,
+};
+use crate::datasets_json::{copy_dataset_json, drop_dataset_json, rename_dataset_json};
+use crate::rows_json::{
+    delete_row_json, insert_row_json, move_row_json, set_value_json, sort_json,
+};
+use serde_json::Value as Json;
+use sheet_commands::Command;
+use std::alloc::Global;
+use value_types::NoMemory;
+
+/// The JSON of a spreadsheet cell, which is read as this cell.
+///
+/// - Source: docs/FORMATS.md, "Spreadsheet commands".
+pub fn command_json(alloc: Global, command: &Command) -> Result<Json, NoMemory>
+    requires { IsPlainCommand command.now }
+    ensures { IfOk result (λ json. IsJsonOf cell_of 4 (vizual command.now) (view json)) }
+{
+    match command {
+        Command::InsertColumn {
+            dataset,
+            name,
+            kind,
+            at,
+        } => insert_column_json(alloc, dataset, name, *kind, *at),
+        Command::DeleteColumn { dataset, name } => delete_column_json(alloc, dataset, name),
+        Command::RenameColumn { dataset, name, to } => {
+            rename_column_json(alloc, dataset, name, to)
+        }
+        Command::MoveColumn { dataset, name, at } => move_column_json(alloc, dataset, name, *at),
+        Command::KeepColumns { dataset, names } => keep_columns_json(alloc, dataset, names),
+        Command::InsertRow {
+            dataset,
+            row,
+            after,
+        } => insert_row_json(alloc, dataset, row, after),
+        Command::DeleteRow { dataset, row } => delete_row_json(alloc, dataset, row),
+        Command::MoveRow {
+            dataset,
+            row,
+            after,
+        } => move_row_json(alloc, dataset, row, after),
+        Command::SetValue {
+            dataset,
+            row,
+            column,
+            value,
+        } => set_value_json(alloc, dataset, row, column, value),
+        Command::Formula {
+            dataset,
+            column,
+            text,
+        } => formula_json(alloc, dataset, column, text),
+        Command::Sort { dataset, by } => sort_json(alloc, dataset, by),
+        Command::RenameDataset { dataset, to } => rename_dataset_json(alloc, dataset, to),
+        Command::CopyDataset { dataset, to } => copy_dataset_json(alloc, dataset, to),
+        Command::DropDataset { dataset } => drop_dataset_json(alloc, dataset),
+    }
+}
