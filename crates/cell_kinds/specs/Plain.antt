@@ -3,8 +3,12 @@ use Rattle.std.specs.Prelude.{ℕ, List, [], ◌∷◌, Bool, true, if◌then◌
 use Rattle.std.specs.Str.{bytes_eq}
 use Rattle.dataset_types.specs.declared.picks.Pick.{Pick}
 use Rattle.dataset_types.specs.Plain.{PlainTable, PlainEnv, erased}
-use Rattle.cell_errors.specs.Answers.{Answer}
+use Rattle.cell_errors.specs.Answers.{Answer, and_then}
 use Rattle.csv_load.specs.Plain.{plain_load_of}
+use Rattle.sql_parse.specs.declared.select.Select.{Select}
+use Rattle.sql_meaning.specs.Plain.{plain_select}
+use Rattle.text_answers.specs.Answers.{select_of}
+use Rattle.vizual_edits.specs.Plain.{PlainNamed, plain_entry, plain_applied}
 use Rattle.cell_model.specs.declared.cell.Cell.{Cell}
 use Rattle.cell_model.specs.declared.cell.CellKind.{CellKind}
 use Rattle.cell_model.specs.declared.cell.CellKind.TheVariants as kind
@@ -27,6 +31,11 @@ no_tables name = None
 abbrev pub with_table : PlainEnv → List ℕ → PlainTable → PlainEnv
 with_table env name table other = if bytes_eq name other then Some table else env other
 
+-- the environment with these writes, the first of a name's counting
+abbrev pub with_writes : PlainEnv → List PlainNamed → PlainEnv
+with_writes env [] other = env other
+with_writes env (w ∷ writes) other = if bytes_eq w.name other then w.table else with_writes env writes other
+
 -- a status without lines, which leaves the environment as it was
 abbrev pub nothing : PlainEnv → CellStatus → PlainStep
 nothing env s = record { status = s; lines = []; env = env }
@@ -36,11 +45,23 @@ abbrev pub plain_result : List ℕ → Answer PlainTable → PlainEnv → PlainS
 plain_result name (Ok table) env = record { status = status.Ok; lines = []; env = with_table env name table }
 plain_result name (Err e) env = nothing env (status.Error e)
 
+-- the writes, or the error
+abbrev pub plain_written : Answer (List PlainNamed) → PlainEnv → PlainStep
+plain_written (Ok writes) env = record { status = status.Ok; lines = []; env = with_writes env writes }
+plain_written (Err e) env = nothing env (status.Error e)
+
+-- what the SELECT of a text gives, under this name, in the cell with an id
+abbrev pub plain_text_writes : ℕ → List Pick → List ℕ → Answer Select → PlainEnv → Answer (List PlainNamed)
+plain_text_writes id picks into text env =
+    and_then text (λ select. and_then (plain_select env select picks id) (λ table. Ok (plain_entry into (Some table) ∷ [])))
+
 -- what the cell with an id, under these picks, gives in an environment
 abbrev pub plain_kind : ℕ → List Pick → CellKind → PlainEnv → PlainStep
 plain_kind id picks (kind.Make name table) env = plain_result name (Ok (erased table)) env
 plain_kind id picks (kind.Load name bytes types repair) env =
     plain_result name (plain_load_of bytes types repair picks id) env
+plain_kind id picks (kind.Vizual command) env = plain_written (plain_applied command id picks env) env
+plain_kind id picks (kind.Sql text into) env = plain_written (plain_text_writes id picks into (select_of text) env) env
 
 -- what a cell gives in an environment
 abbrev pub plain_meaning : Cell → PlainEnv → PlainStep

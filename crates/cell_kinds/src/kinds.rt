@@ -1,14 +1,16 @@
 //! The work that runs every kind of cell.
-ghost use Rattle.std.specs.Prelude.{◌≡◌, List, ℕ, [], IfOk};
-ghost use Rattle.dataset_types.specs.declared.slot.Slot.{Slot};
-ghost use Rattle.cell_kinds.specs.Kinds.{meaning};
+ghost use Rattle.std.specs.Prelude.{◌≡◌, [], None};
+ghost use Rattle.cell_model.specs.Works.{KeepsSource};
+ghost use Rattle.cell_kinds.specs.Kinds.{meaning, names};
+ghost use Rattle.cell_kinds.specs.Written.{IsResult};
 
 use crate::load::load_result;
 use crate::make::make_result;
+use crate::sql::sql_result;
+use crate::vizual::vizual_result;
 use cell_model::{
     Cell, CellKind, CellMeaning, CellResult, CellWork, Ended, Estimate, Reads, Record,
 };
-use dataset_types::Slots;
 use std::alloc::Global;
 use value_types::{ArcOf, Names, NoMemory};
 
@@ -16,12 +18,17 @@ use value_types::{ArcOf, Names, NoMemory};
 #[derive(Clone, Copy, Debug, PartialEq, Eq)]
 pub struct Kinds;
 
-// The result of a cell that reads no name.
-fn alone(alloc: Global, cell: &Cell) -> Result<CellResult, NoMemory>
-    ensures { (look : List ℕ → Slot) → IfOk result (λ r. r ≡ meaning cell.now look) }
+// What a cell gives, and what its reads fix of that.
+fn outcome_of<R: Reads>(alloc: Global, cell: &Cell, reads: &mut R) -> Result<CellResult, Ended>
+    requires fresh { R.asked reads.old ≡ [] }
+    requires going { R.ended reads.old ≡ None }
+    ensures works { IsResult (meaning cell.now) (names cell.now) result
+        (R.asked reads.new) (R.ended reads.new) }
+    ensures source { KeepsSource (R.source reads.old) (R.source reads.new) (R.asked reads.new) }
 {
+    let (id, picks) = (cell.id, cell.picks.get());
     match &cell.kind {
-        CellKind::Make { name, table } => make_result(alloc, name, table),
+        CellKind::Make { name, table } => Ok(make_result(alloc, name, table)?),
         CellKind::Load {
             name,
             bytes,
@@ -29,16 +36,10 @@ fn alone(alloc: Global, cell: &Cell) -> Result<CellResult, NoMemory>
             repair,
         } => {
             let bytes = bytes.get().as_slice();
-            load_result(
-                alloc,
-                cell.id,
-                cell.picks.get(),
-                name,
-                bytes,
-                types,
-                *repair,
-            )
+            Ok(load_result(alloc, id, picks, name, bytes, types, *repair)?)
         }
+        CellKind::Vizual(command) => vizual_result(alloc, id, picks, command, reads),
+        CellKind::Sql { text, into } => sql_result(alloc, id, picks, text, into, reads),
     }
 }
 
@@ -69,10 +70,11 @@ impl CellWork for Kinds {
         &self,
         alloc: Global,
         cell: &ArcOf<Cell>,
-        _reads: &mut R,
+        reads: &mut R,
     ) -> Result<Record<Self>, Ended> {
-        let outcome = alone(alloc, cell.get())?;
-        Ok(Record::new(cell.copy(alloc)?, Slots::new(alloc)?, outcome))
+        let outcome = outcome_of(alloc, cell.get(), reads)?;
+        let asked = reads.answered(alloc)?;
+        Ok(Record::new(cell.copy(alloc)?, asked, outcome))
     }
 
     fn estimate(&self, alloc: Global, _cell: &Cell) -> Result<Estimate, NoMemory> {

@@ -8,8 +8,13 @@ mod kinds;
 mod laws;
 mod load;
 mod make;
+mod sql;
 #[cfg(test)]
 mod tests;
+#[cfg(test)]
+mod tests_reads;
+mod vizual;
+mod written;
 
 pub use kinds::Kinds;
 pub use laws::law_of_erasure;
