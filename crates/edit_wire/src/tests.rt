@@ -1,7 +1,7 @@
 //! Lines with the edits that they are, the refusals of others, and edits that are written.
-use crate::edit_of;
-use crate::tests_text::{check, push, repeated, said_again};
+use crate::tests_text::{check, is_edit, push, repeated, said_again};
 use std::alloc::Global;
+use std::process::Abort;
 use std::test::Fail;
 use value_types::{NoMemory, Words};
 
@@ -130,6 +130,18 @@ fn appended(alloc: Global, columns: &str, rows: &str) -> Result<Words, NoMemory>
     Ok(line)
 }
 
+/// The make cell of these columns and rows gives this text.
+fn check_rows<R: Abort>(
+    rt: &R,
+    alloc: Global,
+    columns: &str,
+    rows: &str,
+    text: &str,
+) -> Result<(), Fail> {
+    let line = appended(alloc, columns, rows)?;
+    check(rt, alloc, line.as_bytes(), text)
+}
+
 #[test]
 fn values_fit_their_columns(rt: HostRuntime) -> Result<(), Fail> {
     let alloc = rt.alloc();
@@ -150,9 +162,8 @@ fn values_fit_their_columns(rt: HostRuntime) -> Result<(), Fail> {
             "a fixed; #1 922337203685477.0000; #2 -922337203685477.5808",
         ),
     ] {
-        let line = appended(alloc, columns, rows)?;
         let text = format!(in alloc; "append main make t {text}")?;
-        check(&rt, rt.alloc(), line.as_bytes(), text.as_str())?;
+        check_rows(&rt, alloc, columns, rows, text.as_str())?;
     }
     for (columns, rows) in [
         ("", ""),
@@ -175,8 +186,7 @@ fn values_fit_their_columns(rt: HostRuntime) -> Result<(), Fail> {
         ("[\"a\",\"text\"]", "[1]"),
         ("[\"a\",\"bool\"]", "[[]]"),
     ] {
-        let line = appended(alloc, columns, rows)?;
-        check(&rt, rt.alloc(), line.as_bytes(), "BadEdit")?;
+        check_rows(&rt, alloc, columns, rows, "BadEdit")?;
     }
     Ok(())
 }
@@ -184,7 +194,18 @@ fn values_fit_their_columns(rt: HostRuntime) -> Result<(), Fail> {
 fn is_taken(alloc: Global, columns: &str, row: &str, count: usize) -> Result<bool, NoMemory> {
     let rows = repeated(alloc, row, count)?;
     let line = appended(alloc, columns, rows.as_text())?;
-    Ok(edit_of(alloc, line.as_bytes()).is_ok())
+    Ok(is_edit(alloc, line.as_bytes()))
+}
+
+/// A row of one text of so many bytes.
+fn text_row(alloc: Global, size: usize) -> Result<Words, NoMemory> {
+    let mut row = Words::new(alloc)?;
+    row.push_text(alloc, "[\"")?;
+    for _ in 0..size {
+        row.push_text(alloc, "x")?;
+    }
+    row.push_text(alloc, "\"]")?;
+    Ok(row)
 }
 
 #[test]
@@ -197,44 +218,52 @@ fn a_table_is_within_the_limits_of_a_dataset(rt: HostRuntime) -> Result<(), Fail
     assert!(rt; !is_taken(alloc, two, "[1,2]", 32_769)?);
     // The id of the one row is `#1`, two bytes.
     for (size, taken) in [(1_048_574, true), (1_048_575, false)] {
-        let mut row = Words::new(alloc)?;
-        row.push_text(alloc, "[\"")?;
-        for _ in 0..size {
-            row.push_text(alloc, "x")?;
-        }
-        row.push_text(alloc, "\"]")?;
+        let row = text_row(alloc, size)?;
         assert!(rt; is_taken(alloc, "[\"a\",\"text\"]", row.as_text(), 1)? == taken);
     }
     Ok(())
 }
 
+/// So many columns of Ints, each with a name of its own.
+fn int_columns(alloc: Global, count: u32) -> Result<Words, NoMemory> {
+    let mut columns = Words::new(alloc)?;
+    for n in 0..count {
+        let comma = if n == 0 { "" } else { "," };
+        let column = format!(in alloc; "{comma}[\"c{n}\",\"int\"]")?;
+        columns.push_text(alloc, column.as_str())?;
+    }
+    Ok(columns)
+}
+
 #[test]
 fn a_cell_has_at_most_32_columns(rt: HostRuntime) -> Result<(), Fail> {
     let alloc = rt.alloc();
-    let mut columns = Words::new(alloc)?;
-    for n in 1..34u32 {
-        let comma = if n == 1 { "" } else { "," };
-        let column = format!(in alloc; "{comma}[\"c{n}\",\"int\"]")?;
-        columns.push_text(alloc, column.as_str())?;
-        let line = appended(alloc, columns.as_text(), "")?;
+    for (count, taken) in [(1, true), (32, true), (33, false)] {
+        let columns = int_columns(alloc, count)?;
         assert!(rt;
-            edit_of(alloc, line.as_bytes()).is_ok() == (n <= 32),
-            "{n} columns"
+            is_taken(alloc, columns.as_text(), "", 0)? == taken,
+            "{count} columns"
         );
     }
     Ok(())
 }
 
+/// Arrays in arrays, so many deep.
+fn nested(alloc: Global, depth: usize) -> Result<Words, NoMemory> {
+    let mut line = Words::new(alloc)?;
+    for _ in 0..depth {
+        line.push_text(alloc, "[")?;
+    }
+    for _ in 0..depth {
+        line.push_text(alloc, "]")?;
+    }
+    Ok(line)
+}
+
 #[test]
 fn brackets_nest_at_most_127_deep(rt: HostRuntime) -> Result<(), Fail> {
     for (depth, text) in [(127, "BadEdit"), (128, "BadJson")] {
-        let mut line = Words::new(rt.alloc())?;
-        for _ in 0..depth {
-            line.push_text(rt.alloc(), "[")?;
-        }
-        for _ in 0..depth {
-            line.push_text(rt.alloc(), "]")?;
-        }
+        let line = nested(rt.alloc(), depth)?;
         check(&rt, rt.alloc(), line.as_bytes(), text)?;
     }
     Ok(())

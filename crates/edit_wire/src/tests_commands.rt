@@ -1,7 +1,7 @@
 //! Edits with spreadsheet cells and SELECT cells: read, refused, and written.
-use crate::tests_text::{check, push, repeated};
-use crate::{edit_of, line_of};
+use crate::tests_text::{check, is_edit, push, repeated, written_again};
 use std::alloc::Global;
+use std::process::Abort;
 use std::test::Fail;
 use value_types::{NoMemory, Words};
 
@@ -23,9 +23,14 @@ fn appended(alloc: Global, fields: &str) -> Result<Words, NoMemory> {
 // The line's edit is written as the line itself, whose fields are in the order of their names.
 fn is_written_so(alloc: Global, fields: &str) -> Result<bool, Fail> {
     let line = appended(alloc, fields)?;
-    let edit = edit_of(alloc, line.as_bytes())?;
-    let written = line_of(alloc, &edit)?;
+    let written = written_again(alloc, line.as_bytes())?;
     Ok(written.as_slice() == line.as_bytes())
+}
+
+// The cell of these fields is refused.
+fn check_cell<R: Abort>(rt: &R, alloc: Global, fields: &str) -> Result<(), Fail> {
+    let line = appended(alloc, fields)?;
+    check(rt, alloc, line.as_bytes(), "BadEdit")
 }
 
 #[test]
@@ -80,8 +85,7 @@ fn cells_that_are_no_command_are_refused(rt: HostRuntime) -> Result<(), Fail> {
         "\"by\":[[\"a\",\"asc\",1]],\"dataset\":\"t\",\"vizual\":\"sort\"",
         "\"column\":\"a\",\"dataset\":\"t\",\"text\":null,\"vizual\":\"formula\"",
     ] {
-        let line = appended(rt.alloc(), fields)?;
-        check(&rt, rt.alloc(), line.as_bytes(), "BadEdit")?;
+        check_cell(&rt, rt.alloc(), fields)?;
     }
     Ok(())
 }
@@ -100,32 +104,34 @@ fn a_select_is_read_and_written_as_it_stands(rt: HostRuntime) -> Result<(), Fail
         "\"into\":\"U\",\"sql\":\"\"",
         "\"fuel\":1,\"into\":\"u\",\"sql\":\"\"",
     ] {
-        let line = appended(rt.alloc(), fields)?;
-        check(&rt, rt.alloc(), line.as_bytes(), "BadEdit")?;
+        check_cell(&rt, rt.alloc(), fields)?;
     }
     Ok(())
+}
+
+// The fields of a sort by one column so many times.
+fn sort_by(alloc: Global, count: usize) -> Result<Words, NoMemory> {
+    let by = repeated(alloc, "[\"a\",\"asc\"]", count)?;
+    let mut fields = Words::new(alloc)?;
+    push(
+        alloc,
+        &mut fields,
+        &[
+            "\"by\":[",
+            by.as_text(),
+            "],\"dataset\":\"t\",\"vizual\":\"sort\"",
+        ],
+    )?;
+    Ok(fields)
 }
 
 #[test]
 fn a_sort_goes_by_at_most_32_columns(rt: HostRuntime) -> Result<(), Fail> {
     let alloc = rt.alloc();
     for (count, taken) in [(32, true), (33, false)] {
-        let mut fields = Words::new(alloc)?;
-        let by = repeated(alloc, "[\"a\",\"asc\"]", count)?;
-        push(
-            alloc,
-            &mut fields,
-            &[
-                "\"by\":[",
-                by.as_text(),
-                "],\"dataset\":\"t\",\"vizual\":\"sort\"",
-            ],
-        )?;
+        let fields = sort_by(alloc, count)?;
         let line = appended(alloc, fields.as_text())?;
-        assert!(rt;
-            edit_of(alloc, line.as_bytes()).is_ok() == taken,
-            "{count} columns"
-        );
+        assert!(rt; is_edit(alloc, line.as_bytes()) == taken, "{count} columns");
     }
     Ok(())
 }

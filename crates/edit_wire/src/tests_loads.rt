@@ -1,7 +1,7 @@
 //! Edits with load cells: read, refused, and written.
-use crate::edit_of;
-use crate::tests_text::{check, push, repeated, said_again};
+use crate::tests_text::{check, is_edit, push, repeated, said_again};
 use std::alloc::Global;
+use std::process::Abort;
 use std::test::Fail;
 use value_types::{NoMemory, Words};
 
@@ -52,6 +52,12 @@ fn appended(alloc: Global, fields: &[&str]) -> Result<Words, NoMemory> {
     Ok(line)
 }
 
+/// The cell of these fields is refused.
+fn check_cell<R: Abort>(rt: &R, alloc: Global, fields: &str) -> Result<(), Fail> {
+    let line = appended(alloc, &[fields])?;
+    check(rt, alloc, line.as_bytes(), "BadEdit")
+}
+
 #[test]
 fn cells_that_are_no_load_are_refused(rt: HostRuntime) -> Result<(), Fail> {
     for fields in [
@@ -71,10 +77,18 @@ fn cells_that_are_no_load_are_refused(rt: HostRuntime) -> Result<(), Fail> {
         "\"load\":\"t\",\"file\":\"a\",\"make\":\"t\"",
         "\"make\":\"t\",\"columns\":[[\"a\",\"int\"]],\"rows\":[],\"repair\":\"null\"",
     ] {
-        let line = appended(rt.alloc(), &[fields])?;
-        check(&rt, rt.alloc(), line.as_bytes(), "BadEdit")?;
+        check_cell(&rt, rt.alloc(), fields)?;
     }
     Ok(())
+}
+
+/// The line of a load whose file has this letter so many times.
+fn load_of_file(alloc: Global, letter: &str, count: usize) -> Result<Words, NoMemory> {
+    let mut file = Words::new(alloc)?;
+    for _ in 0..count {
+        file.push_text(alloc, letter)?;
+    }
+    appended(alloc, &["\"load\":\"t\",\"file\":\"", file.as_text(), "\""])
 }
 
 #[test]
@@ -89,36 +103,34 @@ fn a_file_has_1_to_255_bytes(rt: HostRuntime) -> Result<(), Fail> {
         ("\u{e9}", 127, true),
         ("\u{e9}", 128, false),
     ] {
-        let mut file = Words::new(alloc)?;
-        for _ in 0..count {
-            file.push_text(alloc, letter)?;
-        }
-        let line = appended(alloc, &["\"load\":\"t\",\"file\":\"", file.as_text(), "\""])?;
+        let line = load_of_file(alloc, letter, count)?;
         assert!(rt;
-            edit_of(alloc, line.as_bytes()).is_ok() == taken,
+            is_edit(alloc, line.as_bytes()) == taken,
             "{count} times {letter}"
         );
     }
     Ok(())
 }
 
+/// The line of a load with so many types to be guessed.
+fn load_of_guesses(alloc: Global, count: usize) -> Result<Words, NoMemory> {
+    let types = repeated(alloc, "\"guess\"", count)?;
+    appended(
+        alloc,
+        &[
+            "\"load\":\"t\",\"file\":\"a\",\"types\":[",
+            types.as_text(),
+            "]",
+        ],
+    )
+}
+
 #[test]
 fn a_load_has_at_most_32_types(rt: HostRuntime) -> Result<(), Fail> {
     let alloc = rt.alloc();
     for (count, taken) in [(0usize, true), (32, true), (33, false)] {
-        let types = repeated(alloc, "\"guess\"", count)?;
-        let line = appended(
-            alloc,
-            &[
-                "\"load\":\"t\",\"file\":\"a\",\"types\":[",
-                types.as_text(),
-                "]",
-            ],
-        )?;
-        assert!(rt;
-            edit_of(alloc, line.as_bytes()).is_ok() == taken,
-            "{count} types"
-        );
+        let line = load_of_guesses(alloc, count)?;
+        assert!(rt; is_edit(alloc, line.as_bytes()) == taken, "{count} types");
     }
     Ok(())
 }

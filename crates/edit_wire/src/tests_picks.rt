@@ -7,23 +7,31 @@ use std::process::Abort;
 use std::test::Fail;
 use value_types::{NoMemory, Words, literal_text};
 
-/// What a file chooses at a site of a cell, or the line that is no pick.
-fn chosen(alloc: Global, file: &str, cell: u32, site: &Site) -> Result<Words, NoMemory> {
+fn choice_text(alloc: Global, choice: Option<&Choice>) -> Result<Words, NoMemory> {
     let mut out = Words::new(alloc)?;
-    match picks_of(alloc, file.as_bytes()) {
-        Ok(picks) => match picks.choice(cell, site) {
-            Some(Choice::Value(value)) => literal_text(alloc, value, &mut out)?,
-            Some(Choice::Keep(true)) => out.push_text(alloc, "kept")?,
-            Some(Choice::Keep(false)) => out.push_text(alloc, "dropped")?,
-            None => out.push_text(alloc, "nothing")?,
-        },
-        Err(PicksFault::BadLine(number)) => {
-            let text = format!(in alloc; "line {number}")?;
-            out.push_text(alloc, text.as_str())?;
-        }
-        Err(PicksFault::NoMemory) => return Err(NoMemory),
+    match choice {
+        Some(Choice::Value(value)) => literal_text(alloc, value, &mut out)?,
+        Some(Choice::Keep(true)) => out.push_text(alloc, "kept")?,
+        Some(Choice::Keep(false)) => out.push_text(alloc, "dropped")?,
+        None => out.push_text(alloc, "nothing")?,
     }
     Ok(out)
+}
+
+fn line_text(alloc: Global, number: u32) -> Result<Words, NoMemory> {
+    let mut out = Words::new(alloc)?;
+    let text = format!(in alloc; "line {number}")?;
+    out.push_text(alloc, text.as_str())?;
+    Ok(out)
+}
+
+/// What a file chooses at a site of a cell, or the line that is no pick.
+fn chosen(alloc: Global, file: &str, cell: u32, site: &Site) -> Result<Words, NoMemory> {
+    match picks_of(alloc, file.as_bytes()) {
+        Ok(picks) => choice_text(alloc, picks.choice(cell, site)),
+        Err(PicksFault::BadLine(number)) => line_text(alloc, number),
+        Err(PicksFault::NoMemory) => Err(NoMemory),
+    }
 }
 
 fn check<R: Abort>(
@@ -98,6 +106,13 @@ fn picks_of_each_form_are_read_and_blank_lines_skipped(rt: HostRuntime) -> Resul
     check(&rt, rt.alloc(), "", 1, &Site::Call { call: 1 }, "nothing")
 }
 
+/// Texts, one after the other.
+fn joined(alloc: Global, texts: &[&str]) -> Result<Words, NoMemory> {
+    let mut all = Words::new(alloc)?;
+    push(alloc, &mut all, texts)?;
+    Ok(all)
+}
+
 #[test]
 fn the_first_line_that_is_no_pick_is_named(rt: HostRuntime) -> Result<(), Fail> {
     let alloc = rt.alloc();
@@ -126,16 +141,27 @@ fn the_first_line_that_is_no_pick_is_named(rt: HostRuntime) -> Result<(), Fail> 
         "{\"cell\":1,\"record\":1,\"column\":1,\"value\":1,\"call\":1}",
     ] {
         let good = "{\"cell\":1,\"call\":1,\"value\":1}\n";
-        let mut file = Words::new(alloc)?;
-        push(alloc, &mut file, &[good, "\n", line, "\n", good, "x\n"])?;
-        let said = chosen(alloc, file.as_text(), 1, &Site::Call { call: 1 })?;
-        assert!(rt;
-            said.as_text() == "line 3",
-            "{line} gives {}",
-            said.as_text()
-        );
+        let file = joined(alloc, &[good, "\n", line, "\n", good, "x\n"])?;
+        check(
+            &rt,
+            alloc,
+            file.as_text(),
+            1,
+            &Site::Call { call: 1 },
+            "line 3",
+        )?;
     }
     Ok(())
+}
+
+/// So many spaces, and then texts.
+fn after_spaces(alloc: Global, spaces: usize, texts: &[&str]) -> Result<Words, NoMemory> {
+    let mut all = Words::new(alloc)?;
+    for _ in 0..spaces {
+        all.push_text(alloc, " ")?;
+    }
+    push(alloc, &mut all, texts)?;
+    Ok(all)
 }
 
 #[test]
@@ -149,11 +175,7 @@ fn a_pick_has_at_most_65_536_bytes_and_a_blank_line_any_number(
         (65_537 - pick.len(), pick, "line 1"),
         (65_537, "", "true"),
     ] {
-        let mut file = Words::new(alloc)?;
-        for _ in 0..spaces {
-            file.push_text(alloc, " ")?;
-        }
-        push(alloc, &mut file, &[line, "\n", pick])?;
+        let file = after_spaces(alloc, spaces, &[line, "\n", pick])?;
         check(&rt, alloc, file.as_text(), 1, &Site::Call { call: 1 }, text)?;
     }
     Ok(())

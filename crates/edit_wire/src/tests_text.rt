@@ -1,11 +1,11 @@
 //! Edits and refusals as texts that tests compare.
 use crate::{Edit, EditCell, EditFault, EditKind, edit_of, line_of};
-use cell_model::CellKind;
+use cell_model::{CellKind, EditRefusal};
 use dataset_types::{Repair, Row, Table};
 use std::alloc::Global;
 use std::process::Abort;
 use std::test::Fail;
-use value_types::{ColumnType, NoMemory, RowId, Words, literal_text};
+use value_types::{Bytes, ColumnType, NoMemory, RowId, Words, literal_text};
 
 /// The edit's text: its word, its branch and its numbers, then its cell.
 fn push_edit(alloc: Global, out: &mut Words, edit: &Edit) -> Result<(), NoMemory> {
@@ -122,18 +122,31 @@ fn push_row(alloc: Global, out: &mut Words, row: &Row) -> Result<(), NoMemory> {
     Ok(())
 }
 
-/// The edit's text, or the refusal's name.
-pub fn said(alloc: Global, line: &[u8]) -> Result<Words, NoMemory> {
+fn edit_text(alloc: Global, edit: &Edit) -> Result<Words, NoMemory> {
     let mut out = Words::new(alloc)?;
-    match edit_of(alloc, line) {
-        Ok(edit) => push_edit(alloc, &mut out, &edit)?,
-        Err(EditFault::Refused(refusal)) => {
-            let text = format!(in alloc; "{refusal:?}")?;
-            out.push_text(alloc, text.as_str())?;
-        }
-        Err(EditFault::NoMemory) => return Err(NoMemory),
-    }
+    push_edit(alloc, &mut out, edit)?;
     Ok(out)
+}
+
+fn refusal_text(alloc: Global, refusal: EditRefusal) -> Result<Words, NoMemory> {
+    let mut out = Words::new(alloc)?;
+    let text = format!(in alloc; "{refusal:?}")?;
+    out.push_text(alloc, text.as_str())?;
+    Ok(out)
+}
+
+/// The edit's text, or the refusal's name.
+fn said(alloc: Global, line: &[u8]) -> Result<Words, NoMemory> {
+    match edit_of(alloc, line) {
+        Ok(edit) => edit_text(alloc, &edit),
+        Err(EditFault::Refused(refusal)) => refusal_text(alloc, refusal),
+        Err(EditFault::NoMemory) => Err(NoMemory),
+    }
+}
+
+/// Whether the line is an edit.
+pub fn is_edit(alloc: Global, line: &[u8]) -> bool {
+    edit_of(alloc, line).is_ok()
 }
 
 /// The line gives this text.
@@ -149,10 +162,15 @@ pub fn check<R: Abort>(rt: &R, alloc: Global, line: &[u8], text: &str) -> Result
     Ok(())
 }
 
+/// The line's edit, written as a line.
+pub fn written_again(alloc: Global, line: &[u8]) -> Result<Bytes, Fail> {
+    let edit = edit_of(alloc, line)?;
+    Ok(line_of(alloc, &edit)?)
+}
+
 /// The edit's text once it was written and read again.
 pub fn said_again(alloc: Global, line: &[u8]) -> Result<Words, Fail> {
-    let edit = edit_of(alloc, line)?;
-    let written = line_of(alloc, &edit)?;
+    let written = written_again(alloc, line)?;
     Ok(said(alloc, written.as_slice())?)
 }
 
