@@ -121,6 +121,7 @@ sql_erased id picks into (Err e) look = refl
 
 kind_erased : (env : EnvData) (cell : Cell) (id : ℕ) (picks : List Pick) (k : CellKind)
     → erased_by env cell (kind_meaning id picks k (look env)) ≡ plain_kind id picks k (erased_env env)
+unfolding kind_meaning
 kind_erased env cell id picks (kind.Make name table) = made_erased env cell name table
 kind_erased env cell id picks (kind.Load name bytes types repair) =
     loaded_erased env cell name (load_of bytes types repair picks id)

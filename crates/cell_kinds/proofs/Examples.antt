@@ -10,7 +10,7 @@ use Rattle.cell_model.specs.declared.run.Policy.TheVariants as policy
 use Rattle.cell_model.specs.Runs.{run_of, env_after}
 use Rattle.cell_model.specs.Trails.{results_of}
 use Rattle.cell_kinds.specs.Make.{make_result}
-use Rattle.cell_kinds.specs.Kinds.{meaning}
+use Rattle.cell_kinds.specs.Kinds.{kind_meaning, meaning}
 
 -- a dataset without columns and rows
 abbrev table : Bool → TableData
@@ -27,11 +27,14 @@ two = make 1 (codes "u") false ∷ make 2 (codes "t") true ∷ []
 
 -- each writes its table, and the names stand in order
 two_results : results_of (run_of meaning policy.Stop two) ≡ make_result (codes "u") (table false) ∷ make_result (codes "t") (table true) ∷ []
+unfolding kind_meaning
 two_results = refl
 
 two_env : env_after empty_env (run_of meaning policy.Stop two) ≡ record { slots = entry (codes "t") true ∷ entry (codes "u") false ∷ []; blurred = false }
+unfolding kind_meaning
 two_env = refl
 
 -- of one name the later table stays
 same_name : env_after empty_env (run_of meaning policy.Stop (make 1 (codes "t") false ∷ make 2 (codes "t") true ∷ [])) ≡ record { slots = entry (codes "t") true ∷ []; blurred = false }
+unfolding kind_meaning
 same_name = refl

@@ -29,6 +29,7 @@ written_is_bare (Ok writes) = λ e. not_so e
 written_is_bare (Err e) = λ _. refl
 
 kind_is_bare : (id : ℕ) (picks : List Pick) (k : CellKind) (look : List ℕ → Slot) → IsBare (kind_meaning id picks k look)
+unfolding kind_meaning
 kind_is_bare id picks (kind.Make name table) look = λ e. not_so e
 kind_is_bare id picks (kind.Load name bytes types repair) look = load_is_bare name (load_of bytes types repair picks id)
 kind_is_bare id picks (kind.Vizual command) look = written_is_bare (applied command id picks look)

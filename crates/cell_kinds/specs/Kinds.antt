@@ -15,14 +15,14 @@ use Rattle.cell_kinds.specs.Written.{written}
 use Rattle.cell_kinds.specs.Sql.{sql_writes, sql_names}
 
 -- what the cell with an id, under these picks, gives in an environment
-abbrev pub kind_meaning : ℕ → List Pick → CellKind → (List ℕ → Slot) → CellResult
+unfoldable pub kind_meaning : ℕ → List Pick → CellKind → (List ℕ → Slot) → CellResult
 kind_meaning id picks (kind.Make name table) look = make_result name table
 kind_meaning id picks (kind.Load name bytes types repair) look = load_result name (load_of bytes types repair picks id)
 kind_meaning id picks (kind.Vizual command) look = written (applied command id picks look)
 kind_meaning id picks (kind.Sql text into) look = written (sql_writes id picks text into look)
 
 -- the names that it reads there, in order
-abbrev pub kind_names : CellKind → (List ℕ → Slot) → List (List ℕ)
+unfoldable pub kind_names : CellKind → (List ℕ → Slot) → List (List ℕ)
 kind_names (kind.Make name table) look = []
 kind_names (kind.Load name bytes types repair) look = []
 kind_names (kind.Vizual command) look = names_read command look

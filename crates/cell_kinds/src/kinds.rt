@@ -19,6 +19,7 @@ use value_types::{ArcOf, Names, NoMemory};
 pub struct Kinds;
 
 // What a cell gives, and what its reads fix of that.
+#[tactic(auto, unfolding(crate::specs::Kinds::kind_meaning, crate::specs::Kinds::kind_names))]
 fn outcome_of<R: Reads>(alloc: Global, cell: &Cell, reads: &mut R) -> Result<CellResult, Ended>
     requires fresh { R.asked reads.old ≡ [] }
     requires going { R.ended reads.old ≡ None }
