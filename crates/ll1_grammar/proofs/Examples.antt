@@ -116,6 +116,10 @@ forgetful = refl
 torn : rule_fine (record { alternatives = alternatives; otherwise = λ r. Some (Here More ∷ Here More ∷ []) }) hints More ≡ false
 torn = refl
 
+-- nor two alternatives that begin with one token, of which the second is never taken
+twice : rule_fine (record { alternatives = λ r. (one, Do One ∷ []) ∷ (one, []) ∷ []; otherwise = λ r. None }) hints Atom ≡ false
+twice = refl
+
 -- nor a rule that begins with itself and has no other way
 abbrev left : Table Rule Act
 left = record { alternatives = λ r. (one, Do One ∷ []) ∷ []; otherwise = λ r. Some (Here r ∷ Here Close ∷ []) }

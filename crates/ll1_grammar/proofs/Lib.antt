@@ -2,6 +2,7 @@ pub mod Booleans
 pub mod OneAhead
 pub mod Fronts
 pub mod Tested
+pub mod Counting
 pub mod ShortOnes
 pub mod OnePiece
 pub mod Turns

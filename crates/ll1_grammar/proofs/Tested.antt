@@ -8,7 +8,7 @@ use Rattle.ll1_grammar.specs.declared.item.Item.TheVariants.{Here, Inside, Do}
 use Rattle.ll1_grammar.specs.declared.item.Bounded.{Bounded}
 use Rattle.ll1_grammar.specs.Ahead.{Lookahead, IsLL1, begins, vanishes, IsFollowed}
 use Rattle.ll1_grammar.specs.Table.{Table, entry, laid_out, fits, where_it_fits, grammar_of}
-use Rattle.ll1_grammar.specs.Test.{Hints, member, within, disjoint, may_vanish, starts, next_kinds, follows_fine, alternatives_fine, kinds_of, otherwise_fine, rule_fine, IsFine, lookahead}
+use Rattle.ll1_grammar.specs.Test.{Hints, member, within, disjoint, distinct, may_vanish, starts, next_kinds, follows_fine, alternatives_fine, kinds_of, otherwise_fine, rule_fine, IsFine, lookahead}
 use Rattle.ll1_grammar.proofs.Booleans.{or_left, or_right, or_cases, and_left, and_right, no_both}
 
 member_append_left : (k : ℕ) (a b : List ℕ) → member k a ≡ true → member k (a ++ b) ≡ true
@@ -30,7 +30,7 @@ in_within k (x ∷ a) b w e =
     (λ f. in_within k a b (and_right (member x b) _ w) f)
     (or_cases (k == x) _ e)
 
-not_true : (a : Bool) → not a ≡ true → a ≡ false
+pub not_true : (a : Bool) → not a ≡ true → a ≡ false
 not_true true e = cc
 not_true false e = refl
 
@@ -54,6 +54,22 @@ from_entry {R = R} {A = A} room (Some s) r e = go (fits room s) e
     go : (b : Bool) → (let x : Option (List (Symbol (Bounded R) A)) = if b then Some (laid_out room s) else None in x) ≡ Some r → (s' : List (Item R A)) × (Some s ≡ Some s') × (r ≡ laid_out room s')
     go true e = (s, refl, cc)
     go false e = cc
+
+module _ {R A : Type 0} (table : Table R A) (h : Hints R) where
+  -- the parts of the test of a rule
+  pub record Sides (r : R) : Type 0 where
+    pub kinds : distinct (kinds_of (table.alternatives r)) ≡ true
+    pub begun : alternatives_fine h r (table.alternatives r) ≡ true
+    pub other : otherwise_fine h r (kinds_of (table.alternatives r)) (table.otherwise r) ≡ true
+
+  pub sides : (r : R) → rule_fine table h r ≡ true → Sides r
+  sides r e =
+      let both = and_right (distinct (kinds_of (table.alternatives r))) _ e in
+      record {
+        kinds = and_left (distinct (kinds_of (table.alternatives r))) _ e;
+        begun = and_left (alternatives_fine h r (table.alternatives r)) _ both;
+        other = and_right (alternatives_fine h r (table.alternatives r)) _ both;
+      }
 
 module _ {R T A : Type 0} (table : Table R A) (h : Hints R) (kind : T → ℕ) where
   abbrev K : Lookahead (Bounded R) T
@@ -143,7 +159,7 @@ module _ {R T A : Type 0} (table : Table R A) (h : Hints R) (kind : T → ℕ) w
 
   other_parts : (r : R) (d : List (Item R A)) → rule_fine table h r ≡ true → table.otherwise r ≡ Some d → Other r d
   other_parts r d e o =
-      let fine : otherwise_fine h r (kinds_of (table.alternatives r)) (Some d) ≡ true = subst (λ x. otherwise_fine h r (kinds_of (table.alternatives r)) x ≡ true) o (and_right (alternatives_fine h r (table.alternatives r)) _ e) in
+      let fine : otherwise_fine h r (kinds_of (table.alternatives r)) (Some d) ≡ true = subst (λ x. otherwise_fine h r (kinds_of (table.alternatives r)) x ≡ true) o (sides table h r e).other in
       let more = and_right (within (starts h d) (h.firsts r)) _ fine in
       let last = and_right (not (may_vanish h d) || h.nullable r) _ more in
       record {
@@ -156,13 +172,13 @@ module _ {R T A : Type 0} (table : Table R A) (h : Hints R) (kind : T → ℕ) w
   pub is_ll1 : IsFine table h → IsLL1 (grammar_of table kind) K
   is_ll1 fine = record {
     first_after = λ n t r e. let i = from_entry n.room (entry (kind t) (table.alternatives n.rule)) r e in
-        (entry_closes n.rule (kind t) (table.alternatives n.rule) i.0 (and_left (alternatives_fine h n.rule (table.alternatives n.rule)) _ (fine n.rule)) i.1).0;
+        (entry_closes n.rule (kind t) (table.alternatives n.rule) i.0 (sides table h n.rule (fine n.rule)).begun i.1).0;
     first_otherwise = λ n t r e f. let i = from_entry n.room (table.otherwise n.rule) r e in
         in_within (kind t) (starts h i.0) (h.firsts n.rule) (other_parts n.rule i.0 (fine n.rule) i.1).first (begins_starts n.room i.0 t (subst (λ x. begins K x t ≡ true) i.2 f));
     nullable_otherwise = λ n r e f. let i = from_entry n.room (table.otherwise n.rule) r e in
         (other_parts n.rule i.0 (fine n.rule) i.1).may_vanish (sym (vanishes_gone n.room i.0) ∙ subst (λ x. vanishes K x ≡ true) i.2 f);
     followed_after = λ n t r e. let i = from_entry n.room (entry (kind t) (table.alternatives n.rule)) r e in
-        subst (λ x. IsFollowed K n x) (sym i.2) (closed n n.room i.0 (entry_closes n.rule (kind t) (table.alternatives n.rule) i.0 (and_left (alternatives_fine h n.rule (table.alternatives n.rule)) _ (fine n.rule)) i.1).1);
+        subst (λ x. IsFollowed K n x) (sym i.2) (closed n n.room i.0 (entry_closes n.rule (kind t) (table.alternatives n.rule) i.0 (sides table h n.rule (fine n.rule)).begun i.1).1);
     followed_otherwise = λ n r e. let i = from_entry n.room (table.otherwise n.rule) r e in
         subst (λ x. IsFollowed K n x) (sym i.2) (closed n n.room i.0 (other_parts n.rule i.0 (fine n.rule) i.1).closing);
     apart = λ n t r d e f.

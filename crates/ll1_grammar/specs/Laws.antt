@@ -1,13 +1,15 @@
 -- The theorems, each for every grammar or table over these types.
 use Rattle.std.specs.Prelude.{◌≡◌, true, ◌≤◌, ◌<◌, ◌+◌, ℕ, List, [], ◌∷◌, ◌++◌, Option, Some, None, length, take, slice_get}
+use Rattle.std.specs.List.{Contains}
 use Rattle.ll1_grammar.specs.declared.symbol.Symbol.{Symbol}
 use Rattle.ll1_grammar.specs.declared.symbol.Symbol.TheVariants.{Nonterminal, Action}
 use Rattle.ll1_grammar.specs.declared.symbol.Step.{Step}
 use Rattle.ll1_grammar.specs.declared.symbol.Step.TheVariants.{Took, Did}
+use Rattle.ll1_grammar.specs.declared.item.Item.{Item}
 use Rattle.ll1_grammar.specs.declared.item.Bounded.{Bounded}
 use Rattle.ll1_grammar.specs.Grammar.{Grammar, Derives, IsUnambiguous, taken}
 use Rattle.ll1_grammar.specs.Places.{BeginsSentence, NoSentenceGoesOn, IsErrorPlace}
-use Rattle.ll1_grammar.specs.Table.{Table, grammar_of}
+use Rattle.ll1_grammar.specs.Table.{Table, entry, grammar_of}
 use Rattle.ll1_grammar.specs.Test.{Hints, IsFine, lookahead}
 use Rattle.ll1_grammar.specs.Short.{AreShort}
 use Rattle.ll1_grammar.specs.Pieces.{Builder, Effects, RulesFlow, Part, IsClosed, KeepsShapes, BuildsOne}
@@ -65,6 +67,11 @@ pub record ReadersAreRight (N T A : Type 0) : Type 0 where
 abbrev pub TestDecides : Type 0 → Type 0 → Type 0 → Type 0
 TestDecides R T A = (table : Table R A) (hints : Hints R) (kind : T → ℕ) → IsFine table hints
     → IsLL1 (grammar_of table kind) (lookahead hints kind)
+
+-- in a table that passes the test no alternative hides another: each is the entry for its kind
+abbrev pub AlternativesCount : Type 0 → Type 0 → Type 0
+AlternativesCount R A = (table : Table R A) (hints : Hints R) → IsFine table hints → (r : R) (kind : ℕ) (items : List (Item R A))
+    → Contains (table.alternatives r) (kind, items) → entry kind (table.alternatives r) ≡ Some items
 
 -- a table with a short sentence for each rule is productive
 abbrev pub ShortSentencesServe : Type 0 → Type 0 → Type 0 → Type 0

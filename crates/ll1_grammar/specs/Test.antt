@@ -27,6 +27,11 @@ abbrev pub disjoint : List ℕ → List ℕ → Bool
 disjoint [] b = true
 disjoint (x ∷ a) b = not (member x b) && disjoint a b
 
+-- whether no kind is there twice
+abbrev pub distinct : List ℕ → Bool
+distinct [] = true
+distinct (x ∷ xs) = not (member x xs) && distinct xs
+
 -- whether a sentence of the items may be empty
 abbrev pub may_vanish : {R A : Type 0} → Hints R → List (Item R A) → Bool
 may_vanish h [] = true
@@ -68,9 +73,11 @@ otherwise_fine h r taken None = true
 otherwise_fine h r taken (Some d) =
     within (starts h d) (h.firsts r) && ((not (may_vanish h d) || h.nullable r) && (follows_fine h r d && disjoint taken (next_kinds h r d)))
 
--- the test of one rule
+-- the test of one rule, which has one alternative a kind
 abbrev pub rule_fine : {R A : Type 0} → Table R A → Hints R → R → Bool
-rule_fine table h r = alternatives_fine h r (table.alternatives r) && otherwise_fine h r (kinds_of (table.alternatives r)) (table.otherwise r)
+rule_fine table h r =
+    distinct (kinds_of (table.alternatives r))
+    && (alternatives_fine h r (table.alternatives r) && otherwise_fine h r (kinds_of (table.alternatives r)) (table.otherwise r))
 
 -- each rule passes
 abbrev pub IsFine : {R A : Type 0} → Table R A → Hints R → Type 0

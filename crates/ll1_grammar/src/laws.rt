@@ -37,6 +37,11 @@ pub fn law_of_the_test<R, T, A>()
     ensures { law.TestDecides R T A }
 {}
 
+/// In a table that passes the test no alternative hides another: each is the entry for its kind.
+pub fn law_of_alternatives<R, A>()
+    ensures { law.AlternativesCount R A }
+{}
+
 /// Where a short sentence of each rule is found, each rule has one at every depth.
 pub fn law_of_short_sentences<R, T, A>()
     ensures { law.ShortSentencesServe R T A }

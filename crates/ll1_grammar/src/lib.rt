@@ -14,7 +14,7 @@ mod tests;
 
 pub use item::{Bounded, Item, fits};
 pub use laws::{
-    law_of_fronts, law_of_one_derivation, law_of_one_place, law_of_readers, law_of_short_sentences,
-    law_of_steps, law_of_the_place, law_of_the_test, law_of_trees,
+    law_of_alternatives, law_of_fronts, law_of_one_derivation, law_of_one_place, law_of_readers,
+    law_of_short_sentences, law_of_steps, law_of_the_place, law_of_the_test, law_of_trees,
 };
 pub use symbol::{Step, Symbol};
