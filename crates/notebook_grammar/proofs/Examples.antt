@@ -1,10 +1,11 @@
 -- Worked examples of tokens, levels and a derivation.
-use Rattle.std.proofs.Common.{◌≡◌, true, false, [], ◌∷◌, Option, Some, None, refl}
+use Rattle.std.proofs.Common.{◌≡◌, ℕ, ◌+◌, true, false, [], ◌∷◌, Option, Some, None, refl}
 use Rattle.std.specs.Prelude.{codes}
 use Rattle.value_types.specs.Numbers.{int_of, fixed_of}
 use Rattle.ll1_grammar.specs.declared.symbol.Step.TheVariants.{Took, Did}
-use Rattle.ll1_grammar.specs.Grammar.{Derives, ends, acts, takes, expands}
+use Rattle.ll1_grammar.specs.Grammar.{Derives, taken, ends, acts, takes, expands}
 use Rattle.ll1_grammar.specs.Table.{entry, where_it_fits, laid_out}
+use Rattle.notebook_grammar.specs.declared.kind.Kind.{Kind}
 use Rattle.notebook_grammar.specs.declared.kind.Kind.TheVariants as k
 use Rattle.notebook_grammar.specs.declared.rule.Rule.TheVariants as rule
 use Rattle.notebook_grammar.specs.declared.rule.ExprRule.TheVariants as e
@@ -122,3 +123,45 @@ a_sum =
 counts : counted None steps ≡ Some None
 unfolding a plus one steps
 counts = refl
+
+-- ---- how operators bind: a + b * c and a - b - c
+
+abbrev name_at : ℕ → Lexeme
+name_at at = record { at = at; end = at + 1; kind = k.Name; call = 0 }
+
+abbrev mark_at : ℕ → Kind → Lexeme
+mark_at at kind = record { at = at; end = at + 1; kind = kind; call = 0 }
+
+-- b and c are multiplied before anything is added
+pub product_first : Steps
+product_first =
+    Did (act.Expr e_act.Begin) ∷ Took (name_at 0) ∷ Did (act.Expr e_act.Bare)
+    ∷ Took (mark_at 2 k.Plus) ∷ Took (name_at 4) ∷ Did (act.Expr e_act.Bare)
+    ∷ Took (mark_at 6 k.Star) ∷ Took (name_at 8) ∷ Did (act.Expr e_act.Bare)
+    ∷ Did (act.Expr e_act.Multiply) ∷ Did (act.Expr e_act.Add) ∷ Did (act.Expr e_act.End) ∷ []
+
+a_product_in_a_sum : Derives language (start_of start.Expression) (taken product_first) product_first
+unfolding language product_first
+a_product_in_a_sum =
+    expands refl (acts (expands refl (expands refl (expands refl (expands refl (expands refl (expands refl (expands refl (expands refl
+    (takes refl (expands refl (acts (expands refl
+    (takes refl (expands refl (expands refl (takes refl (expands refl (acts
+    (takes refl (expands refl (takes refl (expands refl (acts
+    (acts (expands refl (acts (expands refl (expands refl (expands refl (expands refl (expands refl (acts ends)))))))))))))))))))))))))))))))))
+
+-- a - b is there before c comes
+pub from_the_left : Steps
+from_the_left =
+    Did (act.Expr e_act.Begin) ∷ Took (name_at 0) ∷ Did (act.Expr e_act.Bare)
+    ∷ Took (mark_at 2 k.Minus) ∷ Took (name_at 4) ∷ Did (act.Expr e_act.Bare) ∷ Did (act.Expr e_act.Subtract)
+    ∷ Took (mark_at 6 k.Minus) ∷ Took (name_at 8) ∷ Did (act.Expr e_act.Bare) ∷ Did (act.Expr e_act.Subtract)
+    ∷ Did (act.Expr e_act.End) ∷ []
+
+two_differences : Derives language (start_of start.Expression) (taken from_the_left) from_the_left
+unfolding language from_the_left
+two_differences =
+    expands refl (acts (expands refl (expands refl (expands refl (expands refl (expands refl (expands refl (expands refl (expands refl
+    (takes refl (expands refl (acts (expands refl
+    (takes refl (expands refl (expands refl (takes refl (expands refl (acts (expands refl (acts
+    (takes refl (expands refl (expands refl (takes refl (expands refl (acts (expands refl (acts
+    (expands refl (expands refl (expands refl (expands refl (expands refl (acts ends)))))))))))))))))))))))))))))))))))
