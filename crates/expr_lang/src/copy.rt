@@ -5,7 +5,7 @@ use crate::expr::{Arm, Arms, Expr, Exprs};
 use crate::ops::{BinaryOp, UnaryOp};
 use sqlite_items::Boxed;
 use std::alloc::Global;
-use value_types::{Copied, ListOf, Name, NoMemory};
+use value_types::{Copied, ListOf, Name, NoMemory, Words};
 
 impl UnaryOp {
     /// The same operator. It takes no memory.
@@ -99,6 +99,56 @@ fn copy_arms(alloc: Global, arms: &[Arm]) -> Result<Arms, NoMemory>
 }
 
 #[cycle(copy)]
+fn copy_like(alloc: Global, of: &Expr, pattern: &Expr, negated: bool) -> Result<Expr, NoMemory>
+    ensures { IfOk result (λ e. e ≡ Expr.Like of.now pattern.now negated) }
+{
+    Ok(Expr::Like {
+        of: copy_boxed(alloc, of)?,
+        pattern: copy_boxed(alloc, pattern)?,
+        negated,
+    })
+}
+
+#[cycle(copy)]
+fn copy_one_of(alloc: Global, list: &[Expr], of: &Expr, negated: bool) -> Result<Expr, NoMemory>
+    ensures { IfOk result (λ e. e ≡ Expr.OneOf of.now list.now negated) }
+{
+    Ok(Expr::OneOf {
+        of: copy_boxed(alloc, of)?,
+        list: copy_list(alloc, list)?,
+        negated,
+    })
+}
+
+#[cycle(copy)]
+fn copy_case(alloc: Global, arms: &[Arm], otherwise: &Option<Boxed<Expr>>) -> Result<Expr, NoMemory>
+    ensures { IfOk result (λ e. e ≡ Expr.Case arms.now otherwise.now) }
+{
+    let arms = copy_arms(alloc, arms)?;
+    match otherwise {
+        None => Ok(Expr::Case {
+            arms,
+            otherwise: None,
+        }),
+        Some(other) => Ok(Expr::Case {
+            arms,
+            otherwise: Some(copy_boxed(alloc, other.get())?),
+        }),
+    }
+}
+
+#[cycle(copy)]
+fn copy_caveat(alloc: Global, of: &Expr, message: &Words, call: u32) -> Result<Expr, NoMemory>
+    ensures { IfOk result (λ e. e ≡ Expr.Caveat of.now message.now call) }
+{
+    Ok(Expr::Caveat {
+        of: copy_boxed(alloc, of)?,
+        message: message.copy(alloc)?,
+        call,
+    })
+}
+
+#[cycle(copy)]
 fn copy_expr(alloc: Global, expr: &Expr) -> Result<Expr, NoMemory>
     ensures { IfOk result (λ e. e ≡ expr.now) }
 {
@@ -121,39 +171,17 @@ fn copy_expr(alloc: Global, expr: &Expr) -> Result<Expr, NoMemory>
             of,
             pattern,
             negated,
-        } => Ok(Expr::Like {
-            of: copy_boxed(alloc, of.get())?,
-            pattern: copy_boxed(alloc, pattern.get())?,
-            negated: *negated,
-        }),
-        Expr::OneOf { of, list, negated } => Ok(Expr::OneOf {
-            of: copy_boxed(alloc, of.get())?,
-            list: copy_list(alloc, list.as_slice())?,
-            negated: *negated,
-        }),
-        Expr::Case { arms, otherwise } => {
-            let arms = copy_arms(alloc, arms.as_slice())?;
-            match otherwise {
-                None => Ok(Expr::Case {
-                    arms,
-                    otherwise: None,
-                }),
-                Some(other) => Ok(Expr::Case {
-                    arms,
-                    otherwise: Some(copy_boxed(alloc, other.get())?),
-                }),
-            }
+        } => copy_like(alloc, of.get(), pattern.get(), *negated),
+        Expr::OneOf { of, list, negated } => {
+            copy_one_of(alloc, list.as_slice(), of.get(), *negated)
         }
+        Expr::Case { arms, otherwise } => copy_case(alloc, arms.as_slice(), otherwise),
         Expr::Coalesce(list) => Ok(Expr::Coalesce(copy_list(alloc, list.as_slice())?)),
         Expr::Cast { of, kind } => Ok(Expr::Cast {
             of: copy_boxed(alloc, of.get())?,
             kind: *kind,
         }),
-        Expr::Caveat { of, message, call } => Ok(Expr::Caveat {
-            of: copy_boxed(alloc, of.get())?,
-            message: message.copy(alloc)?,
-            call: *call,
-        }),
+        Expr::Caveat { of, message, call } => copy_caveat(alloc, of.get(), message, *call),
         Expr::CountAll => Ok(Expr::CountAll),
         Expr::Count(of) => Ok(Expr::Count(copy_boxed(alloc, of.get())?)),
         Expr::Sum(of) => Ok(Expr::Sum(copy_boxed(alloc, of.get())?)),
