@@ -52,6 +52,13 @@ differences : built (builder (codes "a-b-c"))
     ≡ Some (piece.Tree (expr.Binary two.Subtract (expr.Binary two.Subtract (column 97) (column 98)) (column 99)) ∷ [])
 differences = refl
 
+-- a product is an operand of a sum
+a_product_in_a_sum : built (builder (codes "a+b*c"))
+    (did e_act.Begin ∷ took 0 1 k.Name 0 ∷ did e_act.Bare ∷ took 1 2 k.Plus 0 ∷ took 2 3 k.Name 0 ∷ did e_act.Bare
+    ∷ took 3 4 k.Star 0 ∷ took 4 5 k.Name 0 ∷ did e_act.Bare ∷ did e_act.Multiply ∷ did e_act.Add ∷ did e_act.End ∷ []) []
+    ≡ Some (piece.Tree (expr.Binary two.Add (column 97) (expr.Binary two.Multiply (column 98) (column 99))) ∷ [])
+a_product_in_a_sum = refl
+
 -- a CAVEAT has its number from its word
 call : built (builder (codes "caveat(a,'m')"))
     (did e_act.Begin ∷ took 0 6 k.Caveat 1 ∷ took 6 7 k.Open 1 ∷ took 7 8 k.Name 1 ∷ did e_act.Bare ∷ took 8 9 k.Comma 1 ∷ took 9 12 k.Quoted 1

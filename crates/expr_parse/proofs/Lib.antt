@@ -1,4 +1,5 @@
 pub mod Tops
+pub mod Operating
 pub mod Doubled
 pub mod Slices
 pub mod Shapes

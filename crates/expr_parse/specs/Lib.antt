@@ -5,3 +5,4 @@ pub mod Pieces
 pub mod Trees
 -- what the calls on pieces ask for
 pub mod Tops
+pub mod Operators

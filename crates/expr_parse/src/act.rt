@@ -1,8 +1,10 @@
 //! What each action makes of the pieces.
-ghost use Rattle.std.specs.Prelude.{◌≡◌, ◌∷◌, OnOk, IfOk};
+ghost use Rattle.std.specs.Prelude.{◌≡◌, ◌∷◌, None, OnOk, IfOk};
+ghost use Rattle.expr_parse.specs.Operators.{operated, operator_of};
 ghost use Rattle.expr_parse.specs.Pieces as spec;
 ghost use Rattle.expr_parse.specs.Tops.{Goes, TreeOn};
 
+use crate::operator::{Operator, operator_of};
 use crate::piece::Piece;
 use crate::pieces::Pieces;
 use crate::values::type_name;
@@ -247,39 +249,32 @@ fn count<M: Drop>(alloc: Global, pieces: &mut Pieces<M>) -> Result<(), NoMemory>
     pieces.push(Piece::Tree(Expr::Count(of)))
 }
 
-/// Does one action to the pieces.
-pub fn act_on<M: Drop>(
+/// Makes an operator over the expressions on top.
+fn operate<M: Drop>(alloc: Global, pieces: &mut Pieces<M>, op: Operator) -> Result<(), NoMemory>
+    requires { Goes (operated op pieces.old) }
+    ensures { OnOk result (operated op pieces.old ≡ Some pieces.new) }
+{
+    match op {
+        Operator::Unary(op) => unary(alloc, pieces, op),
+        Operator::Binary(op) => binary(alloc, pieces, op),
+        Operator::IsNull { negated } => is_null(alloc, pieces, negated),
+        Operator::Like { negated } => like(alloc, pieces, negated),
+        Operator::OneOf { negated } => one_of(alloc, pieces, negated),
+    }
+}
+
+/// Does one action that makes no operator.
+fn act_on_form<M: Drop>(
     alloc: Global,
     pieces: &mut Pieces<M>,
     action: ExprAction,
 ) -> Result<(), NoMemory>
-    requires { Goes (spec.did action pieces.old) }
+    requires goes { Goes (spec.did action pieces.old) }
+    requires form { operator_of action ≡ None }
     ensures { OnOk result (spec.did action pieces.old ≡ Some pieces.new) }
 {
     match action {
         ExprAction::Begin | ExprAction::End => Ok(()),
-        ExprAction::Or => binary(alloc, pieces, BinaryOp::Or),
-        ExprAction::And => binary(alloc, pieces, BinaryOp::And),
-        ExprAction::Not => unary(alloc, pieces, UnaryOp::Not),
-        ExprAction::Equal => binary(alloc, pieces, BinaryOp::Equal),
-        ExprAction::NotEqual => binary(alloc, pieces, BinaryOp::NotEqual),
-        ExprAction::Less => binary(alloc, pieces, BinaryOp::Less),
-        ExprAction::AtMost => binary(alloc, pieces, BinaryOp::AtMost),
-        ExprAction::Greater => binary(alloc, pieces, BinaryOp::Greater),
-        ExprAction::AtLeast => binary(alloc, pieces, BinaryOp::AtLeast),
-        ExprAction::Like => like(alloc, pieces, false),
-        ExprAction::In => one_of(alloc, pieces, false),
-        ExprAction::IsNull => is_null(alloc, pieces, false),
-        ExprAction::IsNotNull => is_null(alloc, pieces, true),
-        ExprAction::NotLike => like(alloc, pieces, true),
-        ExprAction::NotIn => one_of(alloc, pieces, true),
-        ExprAction::Concat => binary(alloc, pieces, BinaryOp::Concat),
-        ExprAction::Add => binary(alloc, pieces, BinaryOp::Add),
-        ExprAction::Subtract => binary(alloc, pieces, BinaryOp::Subtract),
-        ExprAction::Multiply => binary(alloc, pieces, BinaryOp::Multiply),
-        ExprAction::Divide => binary(alloc, pieces, BinaryOp::Divide),
-        ExprAction::Remainder => binary(alloc, pieces, BinaryOp::Remainder),
-        ExprAction::Minus => unary(alloc, pieces, UnaryOp::Minus),
         ExprAction::TypeAsName => type_as_name(pieces),
         ExprAction::Whole => whole(pieces),
         ExprAction::Decimal => decimal(pieces),
@@ -291,9 +286,6 @@ pub fn act_on<M: Drop>(
         ExprAction::Coalesce => coalesce(pieces),
         ExprAction::Cast => cast(alloc, pieces),
         ExprAction::Caveat => caveat(alloc, pieces),
-        ExprAction::Length => unary(alloc, pieces, UnaryOp::Length),
-        ExprAction::Trim => unary(alloc, pieces, UnaryOp::Trim),
-        ExprAction::Abs => unary(alloc, pieces, UnaryOp::Abs),
         ExprAction::Sum => sum(alloc, pieces),
         ExprAction::Min => min(alloc, pieces),
         ExprAction::Max => max(alloc, pieces),
@@ -306,5 +298,22 @@ pub fn act_on<M: Drop>(
         ExprAction::Case => case(pieces),
         ExprAction::CountAll => pieces.push(Piece::Tree(Expr::CountAll)),
         ExprAction::Count => count(alloc, pieces),
+        _operator => unreachable!(),
+    }
+}
+
+/// Does one action to the pieces.
+#[tactic(auto, using(crate::proofs::Operating::operator_did))]
+pub fn act_on<M: Drop>(
+    alloc: Global,
+    pieces: &mut Pieces<M>,
+    action: ExprAction,
+) -> Result<(), NoMemory>
+    requires { Goes (spec.did action pieces.old) }
+    ensures { OnOk result (spec.did action pieces.old ≡ Some pieces.new) }
+{
+    match operator_of(action) {
+        Some(op) => operate(alloc, pieces, op),
+        None => act_on_form(alloc, pieces, action),
     }
 }

@@ -7,6 +7,7 @@
 #![tactic(auto)]
 
 mod act;
+mod operator;
 mod parse;
 mod piece;
 mod pieces;
