@@ -4,6 +4,8 @@ use Rattle.std.specs.Ordering.{int_eq}
 use Rattle.value_types.specs.Numbers.{fits_i64}
 use Rattle.value_types.specs.declared.value.Value.{Value}
 use Rattle.value_types.specs.declared.value.Value.TheVariants.{Null, Bool as Truth, Int, Fixed, Text}
+use Rattle.expr_lang.specs.declared.ops.BinaryOp.{BinaryOp}
+use Rattle.expr_lang.specs.declared.ops.BinaryOp.TheVariants as binary
 use Rattle.cell_errors.specs.declared.fault.CellError.TheVariants as error
 use Rattle.cell_errors.specs.Answers.{Answer, and_then}
 use Rattle.expr_ops.specs.declared.number.Arithmetic.{Arithmetic}
@@ -80,6 +82,20 @@ calculated op a b = null_where (is_number a && is_number b)
 abbrev pub remaining : Value → Value → Answer Value
 remaining (Int a) (Int b) = an_int (remainder a b)
 remaining a b = null_where (is_int a && is_int b)
+
+-- whether an operator is one of arithmetic
+abbrev pub is_arithmetic : BinaryOp → Bool
+is_arithmetic binary.Add = true
+is_arithmetic binary.Subtract = true
+is_arithmetic binary.Multiply = true
+is_arithmetic binary.Divide = true
+is_arithmetic binary.Remainder = true
+is_arithmetic op = false
+
+-- whether it is one of arithmetic on two Ints
+abbrev pub is_on_ints : BinaryOp → Value → Value → Bool
+is_on_ints op (Int a) (Int b) = is_arithmetic op
+is_on_ints op a b = false
 
 -- unary minus
 abbrev pub opposed : Value → Answer Value

@@ -1,5 +1,5 @@
 //! Arithmetic.
-ghost use Rattle.std.specs.Prelude.{◌≡◌, ◌<◌, ◌≤◌, ◌^◌, ◌*ℤ◌, unsigned_abs, pos, IfSome};
+ghost use Rattle.std.specs.Prelude.{◌≡◌, ◌<◌, ◌≤◌, ◌^◌, ◌*ℤ◌, unsigned_abs, pos, is_some, IfSome};
 ghost use Rattle.expr_ops.specs.Arithmetic as spec;
 ghost use Rattle.expr_ops.specs.Ops.{binary_of};
 ghost use Rattle.expr_ops.specs.Places.{placed};
@@ -168,10 +168,11 @@ pub(crate) fn take_remainder(a: &mut Value, b: &Value) -> Result<(), CellError>
     Ok(())
 }
 
-/// What an operator of arithmetic gives on two Ints; none of other operators and values, of which nothing is said.
+/// What an operator of arithmetic gives on two Ints; none of other operators and values.
 #[inline(always)]
 pub(crate) fn on_two_ints(op: BinaryOp, a: &Value, b: &Value) -> Option<Result<i64, CellError>>
-    ensures { IfSome result (λ n. spec.an_int n ≡ binary_of op a.now b.now) }
+    ensures found { is_some result ≡ spec.is_on_ints op a.now b.now }
+    ensures value { IfSome result (λ n. spec.an_int n ≡ binary_of op a.now b.now) }
 {
     match (a, b) {
         (Value::Int(a), Value::Int(b)) => match op {
