@@ -4,3 +4,7 @@ pub mod Join
 pub mod Laws
 -- what they ask of their sides
 pub mod Rules
+-- ON that compares two columns
+pub mod Equalities
+-- what the functions inside the crate promise each other
+pub mod Jobs

@@ -1,45 +1,74 @@
 //! JOIN and LEFT JOIN.
-ghost use Rattle.std.specs.Prelude.{◌≡◌, ◌++◌, IfOk};
+ghost use Rattle.std.specs.Prelude.{◌≡◌, ◌++◌, IfOk, OnOk};
 ghost use Rattle.cell_errors.specs.Answers.{Gives};
 ghost use Rattle.relations.specs.Batches.{gathered};
 ghost use Rattle.rel_join.specs.Join.{left_row, few_pairs, all_pairs, joined};
+ghost use Rattle.rel_join.specs.Jobs.{HasPlaces, both_few, few_rows, job_row, job_rows, few_joined};
 ghost use Rattle.rel_join.specs.Rules.{AreApart};
 ghost use Rattle.rel_join.specs.declared.kind.Kind.TheVariants as kind;
 
+use crate::equality::equality_of;
 use crate::kind::Kind;
 use crate::lone::finish;
-use crate::pairs::{Job, OfLeft};
+use crate::pairs::{Job, pairs};
 use cell_errors::{CellError, EvalFault};
 use dataset_types::{Picks, Row};
 use expr_lang::Expr;
 use expr_meaning::Scope;
-use relations::{Batch, Rel, Step, gather};
+use relations::{Batch, Rel};
 use std::alloc::Global;
 use value_types::NoMemory;
 
 /// All that a join makes of one left row.
-#[derive(Clone, Copy)]
-struct OfSides<'a> {
-    kind: Kind,
-    job: Job<'a>,
-    right: &'a Rel,
+fn left_row(alloc: Global, job: &Job, row: &Row) -> Result<Batch, EvalFault>
+    requires { HasPlaces job.now }
+    ensures { Gives result (job_row job.now row.now) }
+{
+    let found = pairs(alloc, job, row)?;
+    let width = job.right.columns().len();
+    let is_open = job.right.is_open();
+    Ok(finish(alloc, job.kind, width, is_open, row, found)?)
 }
 
-impl Step<Row> for OfSides<'_> {
-    ghost gives = { λ s l. left_row s.kind s.job.left.now s.right.now s.job.on.now s.job.picks.now s.job.cell l };
+/// The rows of one left row after those of others, unless these are too many.
+fn add_few(alloc: Global, all: &mut Batch, more: Batch) -> Result<(), NoMemory>
+    ensures { OnOk result (all.new ≡ both_few all.old more) }
+{
+    if all.rows.len() <= 65_536 {
+        all.add(alloc, more)?;
+    }
+    Ok(())
+}
 
-    fn run(&self, alloc: Global, row: &Row) -> Result<Batch, EvalFault> {
-        let right = self.right.columns().as_slice();
-        let job = Job { right, ..self.job };
-        let step = OfLeft { job, row };
-        let found = gather(alloc, &step, self.right.rows().as_slice())?;
-        let is_open = self.right.is_open();
-        Ok(finish(alloc, self.kind, right.len(), is_open, row, found)?)
+/// `TooLarge` where there are more than 65,536 rows.
+fn allow_rows(all: Batch) -> Result<Batch, CellError>
+    ensures { result ≡ few_rows all }
+{
+    if all.rows.len() <= 65_536 {
+        Ok(all)
+    } else {
+        Err(CellError::TooLarge)
     }
 }
 
+/// What a join makes of each left row, in order.
+///
+/// Past 65,536 rows no more are kept, for the result is `TooLarge` then, unless a later pair is in error.
+#[tactic(auto, using(crate::proofs::FewRows::few))]
+fn left_rows(alloc: Global, job: &Job, rows: &[Row]) -> Result<Batch, EvalFault>
+    requires { HasPlaces job.now }
+    ensures { Gives result (job_rows job.now rows.now) }
+{
+    let mut all = Batch::new(alloc)?;
+    for row in rows {
+        let made = left_row(alloc, job, row)?;
+        add_few(alloc, &mut all, made)?;
+    }
+    Ok(allow_rows(all)?)
+}
+
 /// At most 16,000,000 pairs are looked at.
-fn allow(left: usize, right: usize) -> Result<(), CellError>
+pub(crate) fn allow(left: usize, right: usize) -> Result<(), CellError>
     ensures { result ≡ few_pairs left right }
 {
     if left as u128 * right as u128 <= 16_000_000 {
@@ -57,32 +86,22 @@ fn all_columns(alloc: Global, a: &Rel, b: &Rel) -> Result<Scope, NoMemory>
     Ok(columns)
 }
 
-fn all_rows(
-    alloc: Global,
-    kind: Kind,
-    a: &Rel,
-    b: &Rel,
-    on: &Expr,
-    picks: &Picks,
-    cell: u32,
-) -> Result<Batch, EvalFault>
-    ensures { Gives result (gathered (left_row kind a.now.columns b.now on.now picks.now cell) a.now.rows) }
+fn join_few(alloc: Global, a: &Rel, b: &Rel, columns: Scope, job: &Job) -> Result<Rel, EvalFault>
+    requires sides { (job.now.left.now ≡ a.now.columns) × (job.now.right.now ≡ b.now) }
+    requires columns { columns ≡ a.now.columns ++ b.now.columns }
+    requires places { HasPlaces job.now }
+    requires apart { AreApart a.now.columns b.now.columns }
+    ensures { Gives result (few_joined a.now b.now (gathered (job_row job.now) a.now.rows)) }
 {
-    let job = Job {
-        left: a.columns().as_slice(),
-        right: b.columns().as_slice(),
-        on,
-        picks,
-        cell,
-    };
-    let step = OfSides {
-        kind,
-        job,
-        right: b,
-    };
-    gather(alloc, &step, a.rows().as_slice())
+    a.law_of_rules();
+    b.law_of_rules();
+    let made = left_rows(alloc, job, a.rows().as_slice())?;
+    let is_open = a.is_open() | b.is_open() | made.marked;
+    let is_loose = a.is_loose() | b.is_loose();
+    Rel::new(alloc, columns, made.rows, is_open, is_loose)
 }
 
+#[tactic(auto, using(crate::proofs::FewRows::few_are_all))]
 fn join_all(
     alloc: Global,
     kind: Kind,
@@ -95,13 +114,17 @@ fn join_all(
     requires apart { AreApart a.now.columns b.now.columns }
     ensures { Gives result (all_pairs kind a.now b.now on.now picks.now cell) }
 {
-    a.law_of_rules();
-    b.law_of_rules();
-    let made = all_rows(alloc, kind, a, b, on, picks, cell)?;
     let columns = all_columns(alloc, a, b)?;
-    let is_open = a.is_open() | b.is_open() | made.marked;
-    let is_loose = a.is_loose() | b.is_loose();
-    Rel::new(alloc, columns, made.rows, is_open, is_loose)
+    let job = Job {
+        kind,
+        left: a.columns().as_slice(),
+        right: b,
+        on,
+        equality: equality_of(alloc, columns.as_slice(), on)?,
+        picks,
+        cell,
+    };
+    join_few(alloc, a, b, columns, &job)
 }
 
 fn join_any(

@@ -5,6 +5,7 @@
 #![tactic(auto)]
 
 mod apart;
+mod equality;
 mod joining;
 mod kind;
 mod laws;

@@ -1,0 +1,14 @@
+-- The rows of a join follow the rules.
+use Rattle.relations.specs.Batches.{gathered}
+use Rattle.rel_join.specs.Jobs.{job_row}
+use Rattle.rel_join.proofs.JoinRules.{join_rules}
+use Rattle.rel_join.proofs.FewRows.{few_is}
+use Rattle.rel_join.proofs.joining.join_few.Goals as goal
+
+pub new-requires : goal.new-requires
+new-requires c =
+    let job = c.args.job.now in
+    let few = rw (c.as_slice.ensures, c.rows.ensures) at c.in_ok-made.ensures in
+    let rows = rw (c.requires.sides.0, c.requires.sides.1) at (few_is (gathered (job_row job) c.args.a.now.rows) c.in_ok-made.made few) in
+    rw (c.requires.columns, c.is_open.ensures, c.is_open-2.ensures, c.is_loose.ensures, c.is_loose-2.ensures)
+    (join_rules job.kind c.args.a.now c.args.b.now job.on.now job.picks.now job.cell c.in_ok-made.made c.law_of_rules.ensures c.law_of_rules-2.ensures c.requires.apart rows)
