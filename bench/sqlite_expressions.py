@@ -44,6 +44,15 @@ class Maker:
     def listed(self, make, depth):
         return ", ".join(make(depth - 1)[0] for _ in range(self.random.randint(1, 4)))
 
+    def number_leaf(self):
+        return ("NULL" if self.random.random() < 0.2 else str(self.random.choice(NUMBERS))), ATOM
+
+    def text_leaf(self):
+        return ("NULL" if self.random.random() < 0.2 else quoted(self.random.choice(TEXTS))), ATOM
+
+    def truth_leaf(self):
+        return self.random.choice(["TRUE", "FALSE", "NULL"]), ATOM
+
     def either(self, make, depth):
         """A form that any type has, or none where a leaf is due."""
         form = self.random.randrange(8) if depth > 0 else 7
@@ -65,8 +74,7 @@ class Maker:
         if made is not None:
             return made
         if depth <= 0 or self.random.random() < 0.3:
-            leaf = "NULL" if self.random.random() < 0.2 else str(self.random.choice(NUMBERS))
-            return leaf, ATOM
+            return self.number_leaf()
         form = self.random.randrange(6)
         if form == 0:
             sign = self.random.choice("+-")
@@ -90,8 +98,7 @@ class Maker:
         if made is not None:
             return made
         if depth <= 0 or self.random.random() < 0.5:
-            leaf = "NULL" if self.random.random() < 0.2 else quoted(self.random.choice(TEXTS))
-            return leaf, ATOM
+            return self.text_leaf()
         if self.random.random() < 0.5:
             return f"TRIM({self.text(depth - 1)[0]})", ATOM
         left = self.operand(self.text, depth, JOINED)
@@ -102,7 +109,7 @@ class Maker:
         if made is not None:
             return made
         if depth <= 0:
-            return self.random.choice(["TRUE", "FALSE", "NULL"]), ATOM
+            return self.truth_leaf()
         make = self.random.choice([self.number, self.text, self.truth])
         form = self.random.randrange(8)
         if form == 0:
@@ -165,4 +172,5 @@ def main():
     sys.exit(1 if wrong else 0)
 
 
-main()
+if __name__ == "__main__":
+    main()
