@@ -2,4 +2,5 @@ pub mod EnvLemmas
 pub mod TableLemmas
 pub mod RuleLemmas
 pub mod PlainLemmas
+pub mod PickLemmas
 mod Examples
