@@ -22,9 +22,10 @@ abbrev pub text_names : Answer Select → (List ℕ → Slot) → List (List ℕ
 text_names (Ok select) look = select_names look select
 text_names (Err e) look = []
 
--- the same of the text
+-- what the SELECT cell of a text, with an id, gives under this name
 abbrev pub sql_writes : ℕ → List Pick → List ℕ → List ℕ → (List ℕ → Slot) → Answer (List Named)
 sql_writes id picks text into look = text_writes id picks into (select_of text) look
 
+-- the names that the SELECT cell of a text reads
 abbrev pub sql_names : List ℕ → (List ℕ → Slot) → List (List ℕ)
 sql_names text look = text_names (select_of text) look
