@@ -71,6 +71,10 @@ over_gives op p e = over_at op (setting_of p) p.picks.now p.cell e
 abbrev pub type_setting : TypedSetting → TypeSetting
 type_setting p = record { columns = p.columns.now; group = option_copied p.group }
 
+-- the type of each of a list
+abbrev pub each_typed : TypedSetting → List Expr → List (Answer ExprType)
+each_typed p es = map (type_at (type_setting p)) es
+
 -- the type of a CASE, whose arms agree on the type `sofar`
 abbrev pub case_type : TypedSetting → Answer ExprType → List Arm → Option Expr → Answer ExprType
 case_type p sofar arms x =

@@ -27,9 +27,13 @@ at_most_one (x ∷ y ∷ more) = Err error.NoColumn
 
 -- `q` and `n` are the qualifier and the name of each
 module _ {X : Type 0} (q : X → Option Name) (n : X → Name) where
+  -- whether it is asked for
+  abbrev pub is_meant : Bool → Option Name → Name → X → Bool
+  is_meant free written name x = is_match free written name (q x) (n x)
+
   -- the only one that is asked for
   abbrev pub matching : Bool → Option Name → Name → List X → Answer (Option X)
-  matching free written name xs = at_most_one (filter (λ x. is_match free written name (q x) (n x)) xs)
+  matching free written name xs = at_most_one (filter (is_meant free written name) xs)
 
   -- that one, or an error where there is none
   abbrev pub or_no_column : Option X → Answer X

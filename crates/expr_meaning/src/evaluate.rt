@@ -1,4 +1,4 @@
-//! The evaluator: a function for each form.
+//! The evaluator: a function for each form, but for the operators of two operands.
 //!
 //! None of them is inlined. A call pays at entry for the size of its locals, and `eval_in`, which is called for each
 //! part of a tree, has none of its own.
@@ -6,16 +6,16 @@ ghost use Rattle.std.specs.Prelude.{Ok};
 ghost use Rattle.expr_ops.specs.Casts as casts;
 ghost use Rattle.expr_ops.specs.Ops as ops;
 ghost use Rattle.expr_ops.specs.Truths as truths;
-ghost use Rattle.expr_meaning.specs.Sees.{Leaves, Sees, SeesAll, seen};
+ghost use Rattle.expr_meaning.specs.Sees.{Sees, SeesAll, seen};
 ghost use Rattle.expr_meaning.specs.Calls.{caveat_gives, case_gives, each_gives, each_row_gives, gives, in_gives};
-ghost use Rattle.expr_meaning.specs.Calls.{like_gives, made_of, operator_gives, over_gives, rest_gives};
+ghost use Rattle.expr_meaning.specs.Calls.{like_gives, made_of, over_gives};
 ghost use Rattle.expr_meaning.specs.Meaning.{marked_over_row};
-ghost use Rattle.expr_meaning.specs.Steps.{beside_marked, equals_one, first_value_marked, or_equal_marked};
+ghost use Rattle.expr_meaning.specs.Steps.{equals_one, first_value_marked, or_equal_marked};
 
 use crate::bindings::Bindings;
 use crate::caveat::picked;
-use crate::marked::{beside, count_all, found, literal, put_found, put_literal};
-use crate::named::meant;
+use crate::marked::{count_all, found, literal};
+use crate::operators::applied;
 use crate::setting::{Operands, Setting};
 use cell_errors::{CellError, EvalFault};
 use dataset_types::{Marked, Picks};
@@ -102,127 +102,6 @@ fn unary_of(alloc: Global, op: UnaryOp, of: &Expr, setting: &Setting) -> Result<
         value: unary(alloc, op, &x.value)?,
         marked: x.marked,
     })
-}
-
-/// An operator, which looks at the right operand only where the left one doesn't decide.
-#[cycle(eval)]
-#[tactic(auto, using(crate::proofs::Readings::readings))]
-#[inline(never)]
-fn applied(
-    alloc: Global,
-    op: BinaryOp,
-    left: &Expr,
-    right: &Expr,
-    setting: &Setting,
-) -> Result<Marked, EvalFault>
-    ensures { Sees result (operator_gives op setting.now left.now right.now) }
-{
-    let mut out = Marked {
-        value: Value::Null,
-        marked: false,
-    };
-    apply(alloc, op, left, right, setting, &mut out)?;
-    Ok(out)
-}
-
-/// The value of an expression, put in a place. Operators within operators hand on one place, so that their values
-/// aren't moved from call to call.
-#[cycle(eval)]
-#[tactic(auto, using(crate::proofs::Readings::readings))]
-#[inline(always)]
-fn put(alloc: Global, expr: &Expr, setting: &Setting, out: &mut Marked) -> Result<(), EvalFault>
-    ensures { Leaves result out.new (gives setting.now expr.now) }
-{
-    match expr {
-        Expr::Literal(value) => put_literal(alloc, value, out)?,
-        Expr::Column { qualifier, name } => put_found(alloc, setting.row, qualifier, name, out)?,
-        Expr::Binary(op, left, right) => apply(alloc, *op, left.get(), right.get(), setting, out)?,
-        _ => put_other(alloc, expr, setting, out)?,
-    }
-    Ok(())
-}
-
-/// The value of any expression, put in a place.
-#[cycle(eval)]
-#[tactic(auto, using(crate::proofs::Readings::readings))]
-#[inline(never)]
-fn put_other(
-    alloc: Global,
-    expr: &Expr,
-    setting: &Setting,
-    out: &mut Marked,
-) -> Result<(), EvalFault>
-    ensures { Leaves result out.new (gives setting.now expr.now) }
-{
-    *out = eval_in(alloc, expr, setting)?;
-    Ok(())
-}
-
-/// An operator, whose value is put in a place.
-#[cycle(eval)]
-#[tactic(auto, using(crate::proofs::Readings::readings))]
-fn apply(
-    alloc: Global,
-    op: BinaryOp,
-    left: &Expr,
-    right: &Expr,
-    setting: &Setting,
-    out: &mut Marked,
-) -> Result<(), EvalFault>
-    ensures { Leaves result out.new (operator_gives op setting.now left.now right.now) }
-{
-    put(alloc, left, setting, out)?;
-    apply_rest(alloc, op, right, setting, out)?;
-    Ok(())
-}
-
-/// An operator whose left operand stands in the place where its value is to be.
-#[cycle(eval)]
-#[tactic(auto, using(crate::proofs::Readings::readings))]
-fn apply_rest(
-    alloc: Global,
-    op: BinaryOp,
-    right: &Expr,
-    setting: &Setting,
-    out: &mut Marked,
-) -> Result<(), EvalFault>
-    ensures { Leaves result out.new (rest_gives op out.old setting.now right.now) }
-{
-    if decides(op, &out.value)? {
-        return Ok(());
-    }
-    match right {
-        // A literal or a name as the right operand is lent, not written again.
-        Expr::Literal(value) => beside(alloc, op, value, false, out)?,
-        Expr::Column { qualifier, name } => {
-            let binding = meant(setting.row.as_slice(), qualifier, name)?;
-            beside(alloc, op, &binding.value.value, binding.value.marked, out)?
-        }
-        _ => beside_nested(alloc, op, right, setting, out)?,
-    }
-    Ok(())
-}
-
-/// An operator whose left operand stands in `out` and didn't decide, on it and what the right one gives.
-#[cycle(eval)]
-#[tactic(auto, using(crate::proofs::Readings::readings))]
-#[inline(never)]
-fn beside_nested(
-    alloc: Global,
-    op: BinaryOp,
-    right: &Expr,
-    setting: &Setting,
-    out: &mut Marked,
-) -> Result<(), EvalFault>
-    ensures { Leaves result out.new (beside_marked op out.old (gives setting.now right.now)) }
-{
-    let mut other = Marked {
-        value: Value::Null,
-        marked: false,
-    };
-    put(alloc, right, setting, &mut other)?;
-    beside(alloc, op, &other.value, other.marked, out)?;
-    Ok(())
 }
 
 /// IS NULL, or IS NOT NULL.

@@ -13,6 +13,7 @@ mod expr_type;
 mod laws;
 mod marked;
 mod named;
+mod operators;
 mod setting;
 #[cfg(test)]
 mod tests;

@@ -37,7 +37,7 @@ fn is_asked(free: bool, written: &Option<Name>, qualifier: &Option<Name>) -> boo
 }
 
 fn is_match<T: Named>(free: bool, written: &Option<Name>, name: &Name, item: &T) -> bool
-    ensures { result ≡ spec.is_match free written.now name.now (T.qualifier_of item.now) (T.name_of item.now) }
+    ensures { result ≡ spec.is_meant T.qualifier_of T.name_of free written.now name.now item.now }
 {
     is_asked(free, written, item.qualifier()) && item.name().same(name)
 }
@@ -49,7 +49,8 @@ fn matching<'a, T: Named>(
     written: &Option<Name>,
     name: &Name,
 ) -> Result<Option<&'a T>, CellError>
-    ensures { lent_option result ≡ spec.matching T.qualifier_of T.name_of free written.now name.now items.entry.now }
+    ensures { let found = spec.matching T.qualifier_of T.name_of free written.now name.now in
+        lent_option result ≡ found items.entry.now }
 {
     let mut found: Option<&'a T> = None;
     for item in items {
@@ -71,7 +72,8 @@ pub fn meant<'a, T: Named>(
     qualifier: &Option<Name>,
     name: &Name,
 ) -> Result<&'a T, CellError>
-    ensures { lent result ≡ spec.meant T.qualifier_of T.name_of qualifier.now name.now items.entry.now }
+    ensures { let found = spec.meant T.qualifier_of T.name_of qualifier.now name.now in
+        lent result ≡ found items.entry.now }
 {
     if qualifier.is_none() {
         if let Some(free) = matching(items, true, &None, name)? {

@@ -1,10 +1,10 @@
 //! Static types.
-ghost use Rattle.std.specs.Prelude.{◌≡◌, map, Ok};
+ghost use Rattle.std.specs.Prelude.{◌≡◌, Ok};
 ghost use Rattle.std.specs.Option.{option_copied};
 ghost use Rattle.cell_errors.specs.Answers.{Gives};
 ghost use Rattle.expr_meaning.specs.Types as spec;
 ghost use Rattle.expr_meaning.specs.declared.expr_type.ExprType.TheVariants as type;
-ghost use Rattle.expr_meaning.specs.Calls.{case_type, type_setting};
+ghost use Rattle.expr_meaning.specs.Calls.{case_type, each_typed, type_setting};
 
 use crate::bindings::Scope;
 use crate::expr_type::ExprType;
@@ -158,7 +158,7 @@ fn type_over(op: Aggregate, of: &Expr, setting: &TypedSetting) -> Result<ExprTyp
 #[cycle(typing)]
 #[tactic(auto, using(crate::proofs::Typings::typings))]
 fn type_list(of: ExprType, list: &[Expr], setting: &TypedSetting) -> Result<ExprType, CellError>
-    ensures { result ≡ spec.list_typing of (map (spec.type_at (type_setting setting.now)) list.now) }
+    ensures { result ≡ spec.list_typing of (each_typed setting.now list.now) }
 {
     for item in list {
         let x = type_in(item, setting)?;
@@ -171,7 +171,7 @@ fn type_list(of: ExprType, list: &[Expr], setting: &TypedSetting) -> Result<Expr
 #[cycle(typing)]
 #[tactic(auto, using(crate::proofs::Typings::typings))]
 fn type_all(list: &[Expr], setting: &TypedSetting) -> Result<ExprType, CellError>
-    ensures { result ≡ spec.agreed (Ok type.Null) (map (spec.type_at (type_setting setting.now)) list.now) }
+    ensures { result ≡ spec.agreed (Ok type.Null) (each_typed setting.now list.now) }
 {
     let mut sofar = Ok(ExprType::Null);
     for item in list {
