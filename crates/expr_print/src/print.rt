@@ -200,6 +200,15 @@ fn push_members(
 
 #[cycle(print)]
 #[tactic(auto, using(crate::proofs::TokenTexts::texts))]
+fn push_coalesce(alloc: Global, out: &mut Words, list: &[Expr]) -> Result<(), NoMemory>
+    ensures { OnOk result (out.new ≡ joined out.old (tokens (Expr.Coalesce list.now))) }
+{
+    push_token(alloc, out, "COALESCE")?;
+    push_list(alloc, out, list)
+}
+
+#[cycle(print)]
+#[tactic(auto, using(crate::proofs::TokenTexts::texts))]
 fn push_cast(alloc: Global, out: &mut Words, of: &Expr, kind: ColumnType) -> Result<(), NoMemory>
     ensures { OnOk result (out.new ≡ joined out.old (tokens (Expr.Cast of.now kind))) }
 {
@@ -265,10 +274,7 @@ fn push_expr(alloc: Global, out: &mut Words, expr: &Expr) -> Result<(), NoMemory
             push_arms(alloc, out, arms.as_slice())?;
             push_end(alloc, out, otherwise)
         }
-        Expr::Coalesce(list) => {
-            push_token(alloc, out, "COALESCE")?;
-            push_list(alloc, out, list.as_slice())
-        }
+        Expr::Coalesce(list) => push_coalesce(alloc, out, list.as_slice()),
         Expr::Cast { of, kind } => push_cast(alloc, out, of.get(), *kind),
         Expr::Caveat { of, message, .. } => push_caveat(alloc, out, of.get(), message.as_text()),
         Expr::CountAll => push_count_all(alloc, out),
