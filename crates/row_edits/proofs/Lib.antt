@@ -1,4 +1,5 @@
 pub mod PutIn
+pub mod Lengths
 pub mod Mapped
 pub mod Sures
 pub mod Ids

@@ -17,6 +17,7 @@ row_deleted t row =
 
 -- ---- without marks
 
+-- the others, in their order
 abbrev pub plain_row_deleted : PlainTable → List ℕ → Answer PlainTable
 plain_row_deleted t row =
     and_then (deleted plain_id row t.rows) (λ rows. plain_limited (record { columns = t.columns; rows = rows }))
@@ -27,9 +28,11 @@ plain_row_deleted t row =
 abbrev pub without_text : List ℕ → (RowId → Option (List (Option Value))) → RowId → Option (List (Option Value))
 without_text text f i = if is_text text i then None else f i
 
+-- in their order, those of other texts; by their ids, the values of those
 abbrev pub delete_shown : List ℕ → ShownRows → ShownRows
 delete_shown row (InOrder rows) = InOrder (without shown_id row rows)
 delete_shown row (ById f) = ById (without_text row f)
 
+-- the rows that are shown without it; an open dataset stays open
 abbrev pub shown_row_deleted : ShownTable → List ℕ → ShownTable
 shown_row_deleted t row = record { columns = t.columns; rows = delete_shown row t.rows; is_open = t.is_open; is_loose = t.is_loose }

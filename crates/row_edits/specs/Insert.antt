@@ -45,6 +45,7 @@ row_inserted t name place =
 abbrev pub plain_null_row : List ℕ → List Column → PlainRow
 plain_null_row name columns = record { id = Named name; values = map (λ _. Null) columns }
 
+-- the new row after a row, or first
 abbrev pub plain_row_inserted : PlainTable → List ℕ → Option (List ℕ) → Answer PlainTable
 plain_row_inserted t name place =
     and_then (inserted plain_id (plain_null_row name t.columns) place t.rows) (λ rows.
@@ -71,6 +72,7 @@ insert_shown hidden new place (InOrder rows) =
     if hidden then ById (with_row new (values_at rows)) else InOrder (after shown_id place (new ∷ []) rows)
 insert_shown hidden new place (ById f) = ById (with_row new f)
 
+-- the new row is shown; the order is uncertain after a row that is not
 abbrev pub shown_row_inserted : ShownTable → List ℕ → Option (List ℕ) → ShownTable
 shown_row_inserted t name place = record {
   columns = t.columns;

@@ -21,6 +21,7 @@ row_moved t row place =
 
 -- ---- without marks
 
+-- the row after another, or first
 abbrev pub plain_row_moved : PlainTable → List ℕ → Option (List ℕ) → Answer PlainTable
 plain_row_moved t row place =
     and_then (moved plain_id row place t.rows) (λ rows. plain_limited (record { columns = t.columns; rows = rows }))
@@ -36,6 +37,7 @@ abbrev pub move_shown : Bool → List ℕ → Option (List ℕ) → ShownRows �
 move_shown lost row place (InOrder rows) = if lost then ById (values_at rows) else InOrder (put shown_id row place rows)
 move_shown lost row place (ById f) = ById f
 
+-- the order is uncertain after another row that is not shown
 abbrev pub shown_row_moved : ShownTable → List ℕ → Option (List ℕ) → ShownTable
 shown_row_moved t row place = record {
   columns = t.columns;

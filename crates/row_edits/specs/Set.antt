@@ -31,6 +31,7 @@ value_set t row column v =
 abbrev pub with_plain : ℕ → Value → PlainRow → PlainRow
 with_plain at v r = record { id = r.id; values = slice_set r.values at v }
 
+-- the value where the row is there, as one of the column's type
 abbrev pub plain_value_set : PlainTable → List ℕ → List ℕ → Value → Answer PlainTable
 plain_value_set t row column v =
     and_then (find_column t.columns column) (λ found.
@@ -53,6 +54,7 @@ with_known at v r = record { id = r.id; values = set_known at v r.values }
 abbrev pub set_text : List ℕ → ℕ → Value → (RowId → Option (List (Option Value))) → RowId → Option (List (Option Value))
 set_text text at v f i = if is_text text i then option_map (set_known at v) (f i) else f i
 
+-- the row of a text with a value at a place, in order or by its id
 abbrev pub set_shown : List ℕ → ℕ → Value → ShownRows → ShownRows
 set_shown row at v (InOrder rows) = InOrder (changed_at shown_id row (with_known at v) rows)
 set_shown row at v (ById f) = ById (set_text row at v f)
@@ -62,6 +64,7 @@ abbrev pub given_or : {A : Type 0} → A → Answer A → A
 given_or other (Ok a) = a
 given_or other (Err e) = other
 
+-- the value as one of the column's type; what is shown stays where there is an error
 abbrev pub shown_value_set : ShownTable → List ℕ → List ℕ → Value → ShownTable
 shown_value_set t row column v =
     given_or t (and_then (find_column t.columns column) (λ found.

@@ -39,6 +39,7 @@ plain_rel t = record { columns = map (qualified None) t.columns; rows = t.rows }
 abbrev pub plain_table : PlainRel → Answer PlainTable
 plain_table r = plain_limited (record { columns = bare_columns r.columns; rows = r.rows })
 
+-- the rows in order by the named columns
 abbrev pub plain_rows_sorted : PlainTable → List SortName → Answer PlainTable
 plain_rows_sorted t by = and_then (sort_keys t.columns by) (λ keys. and_then (plain_ordered (plain_rel t) keys) plain_table)
 
@@ -54,6 +55,7 @@ abbrev pub sort_shown : Bool → List SortKey → ShownRows → ShownRows
 sort_shown astray keys (InOrder rows) = if astray then ById (values_at rows) else InOrder (sorted (keys_lt shown_at_key keys) rows)
 sort_shown astray keys (ById f) = ById f
 
+-- the rows in order, or by their ids where a key is not known; what is shown stays where there is an error
 abbrev pub shown_rows_sorted : ShownTable → List SortName → ShownTable
 shown_rows_sorted t by =
     given_or t (and_then (sort_keys t.columns by) (λ keys.

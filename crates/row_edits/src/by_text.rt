@@ -7,12 +7,17 @@ ghost use Rattle.row_edits.specs.Tables.{row_id};
 
 use dataset_types::{Row, Rows};
 use std::alloc::Global;
-use value_types::{NoMemory, RowId, Words, push_id};
+use value_types::{NoMemory, RowId, Words, id_weight, push_id};
 
 /// Whether an id has this text.
+#[tactic(auto, using(crate::proofs::Lengths::other_length))]
 pub(crate) fn is_text(alloc: Global, text: &Words, id: &RowId) -> Result<bool, NoMemory>
     ensures { IfOk result (λ b. b ≡ spec.is_text text.now id.now) }
 {
+    // An id whose text has another length is told without writing that text.
+    if id_weight(id) != text.len() as u64 {
+        return Ok(false);
+    }
     let mut own = Words::new(alloc)?;
     push_id(alloc, &mut own, id)?;
     Ok(own.as_text() == text.as_text())
