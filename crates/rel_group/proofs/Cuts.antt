@@ -54,7 +54,7 @@ pub ruleset cutting = (cut_begun, cut_took)
 
 -- ---- cutting from the front
 
-abbrev key : Keyed → Key
+abbrev pub key : Keyed → Key
 key x = x.key
 
 -- two groups of one key as one
@@ -70,11 +70,11 @@ abbrev joined : Group → List Group → List Group
 joined g [] = g ∷ []
 joined g (h ∷ hs) = joined_by (same_key g.key h.key) g h hs
 
-or_after : (a b c : Bool) → a || (b || c) ≡ (a || b) || c
+pub or_after : (a b c : Bool) → a || (b || c) ≡ (a || b) || c
 or_after true b c = refl
 or_after false b c = refl
 
-or_false : (a : Bool) → a || false ≡ a
+pub or_false : (a : Bool) → a || false ≡ a
 or_false true = refl
 or_false false = refl
 
@@ -111,7 +111,7 @@ rows_of_other x xs k apart = ap (λ b. cond b (x ∷ rows_at key xs k) (rows_at 
 rows_of_same : (x : Keyed) (xs : List Keyed) (k : Key) → k ≡ x.key → rows_at key (x ∷ xs) k ≡ x ∷ rows_at key xs k
 rows_of_same x xs k e = ap (λ b. cond b (x ∷ rows_at key xs k) (rows_at key xs k)) ((key_decides k x.key).1 e)
 
-no_rows : (xs : List Keyed) (k : Key) → (Stands k (map key xs) → ⊥) → rows_at key xs k ≡ []
+pub no_rows : (xs : List Keyed) (k : Key) → (Stands k (map key xs) → ⊥) → rows_at key xs k ≡ []
 no_rows [] k h = refl
 no_rows (x ∷ xs) k h = rows_of_other x xs k (λ e. h (inl (sym e))) ∙ no_rows xs k (λ s. h (inr s))
 

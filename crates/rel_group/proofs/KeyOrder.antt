@@ -126,7 +126,7 @@ pub each_at : (P : Key → Type 0) (ls : List Key) (k : Key) → Each P ls → S
 each_at P [] k e s = absurd s
 each_at P (l ∷ ls) k e s = elim s [ inl h ↦ subst P h e.0 | inr h ↦ each_at P ls k e.1 h ]
 
-each_below : (k l : Key) (ls : List Key) → Below k l → Each (Below l) ls → Each (Below k) ls
+pub each_below : (k l : Key) (ls : List Key) → Below k l → Each (Below l) ls → Each (Below k) ls
 each_below k l [] h e = tt
 each_below k l (m ∷ ms) h e = (key_total.trans k l m h e.0, each_below k l ms h e.1)
 

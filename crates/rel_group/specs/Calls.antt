@@ -1,7 +1,9 @@
 -- What the functions promise each other: rows with their keys, and how they are cut into groups.
-use Rattle.std.specs.Prelude.{◌≡◌, ℕ, Bool, true, false, ◌||◌, if◌then◌else◌, Option, Some, None, List, [], ◌∷◌, ◌++◌, map}
+use Rattle.std.specs.Prelude.{◌≡◌, ℕ, suc, Bool, true, false, ◌||◌, if◌then◌else◌, Option, Some, None, List, [], ◌∷◌, ◌++◌, map, slice_get}
 use Rattle.std.specs.List.{list_any}
-use Rattle.std.specs.Ordering.{is_lt}
+use Rattle.std.specs.Ordering.{is_lt, is_gt}
+use Rattle.std.specs.declared.cmp.Ordering.{Ordering}
+use Rattle.std.specs.declared.cmp.Ordering.TheVariants.{Less, Equal, Greater}
 use Rattle.value_types.specs.declared.value.Value.{Value}
 use Rattle.value_types.specs.Order.{same_key}
 use Rattle.dataset_types.specs.declared.row.Marked.{Marked}
@@ -22,7 +24,7 @@ use Rattle.rel_group.specs.declared.parts.Tested.{Tested}
 use Rattle.rel_group.specs.declared.keyed.Keyed.{Keyed}
 use Rattle.rel_group.specs.declared.query.Query.{Query}
 use Rattle.rel_group.specs.Keys.{key_cmp, ascending, rows_at}
-use Rattle.rel_group.specs.Groups.{key_values, key_columns, is_certain, is_uncertain, setting_under, group_types}
+use Rattle.rel_group.specs.Groups.{key_values, key_columns, is_certain, is_uncertain, keyed_groups, setting_under, group_types}
 use Rattle.rel_group.specs.Group.{group_columns, condition_test, having_test, tested, group_value, group_values, group_row, group_rows, rows_of, grouped_to}
 
 -- a row as it is grouped
@@ -42,6 +44,7 @@ abbrev pub taken_by : Bool → List Group → Group → Keyed → List Group × 
 taken_by true done g x = (done, with_row g x)
 taken_by false done g x = (done ++ g ∷ [], single x)
 
+-- the groups that are done and the last one, with one row more; the first row begins a group
 abbrev pub taken : List Group → Option Group → Keyed → List Group × Group
 taken done None x = (done, single x)
 taken done (Some g) x = taken_by (same_key g.key x.key) done g x
@@ -61,13 +64,43 @@ abbrev pub cut : List Keyed → List Group
 cut [] = []
 cut (x ∷ xs) = cut_from (single x) xs
 
--- a group for each key of these rows
+-- the group of a key, of these rows
 abbrev pub collected : List Keyed → List Value → Group
 collected xs k =
     let here = rows_at (λ x. x.key) xs k in record { key = k; sure = list_any (λ x. x.certain) here; rows = map (λ x. x.row) here }
 
+-- a group for each key of these rows, in ascending order
 abbrev pub all_collected : List Keyed → List Group
 all_collected xs = map (collected xs) (ascending (map (λ x. x.key) xs))
+
+-- a group that a row comes before, is in, or comes after
+abbrev pub placed_by : Ordering → Group → List Group → Keyed → List Group → List Group
+placed_by Less g gs x rest = single x ∷ g ∷ gs
+placed_by Equal g gs x rest = with_row g x ∷ gs
+placed_by Greater g gs x rest = g ∷ rest
+
+-- groups in ascending order with one row more, in its group or in a new one
+abbrev pub placed : List Group → Keyed → List Group
+placed [] x = single x ∷ []
+placed (g ∷ gs) x = placed_by (key_cmp x.key g.key) g gs x (placed gs x)
+
+-- how many groups come before a key
+abbrev pub place_of : List Value → List Group → ℕ
+place_of k [] = 0
+place_of k (g ∷ gs) = if is_gt (key_cmp k g.key) then suc (place_of k gs) else 0
+
+-- whether there is a group and it has this key
+abbrev pub is_of_key : Option Group → List Value → Bool
+is_of_key None k = false
+is_of_key (Some g) k = same_key g.key k
+
+-- whether the group at a place, which counts from 0, has this key
+abbrev pub has_key : List Group → ℕ → List Value → Bool
+has_key gs at k = is_of_key (slice_get gs at) k
+
+-- a group for each key of these rows, in ascending order
+abbrev pub AreGroups : List ScopeColumn → Option (List ℕ) → List Row → List Group → Type 0
+AreGroups columns keys rows gs = gs ≡ keyed_groups columns keys rows
 
 -- the setting of a group of a query
 abbrev pub setting_in : Query → Group → MarkedSetting

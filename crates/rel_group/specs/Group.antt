@@ -31,8 +31,9 @@ group_column types i = and_then (type_at types i.expr) (λ t. Ok (output_column 
 abbrev pub group_columns : TypeSetting → List Item → Answer (List ScopeColumn)
 group_columns types items = collect (group_column types) items
 
--- ---- HAVING, which every group passes where there is none
+-- ---- HAVING
 
+-- what every group gets where there is no HAVING
 abbrev pub passed : Test
 passed = record { holds = true; marked = false }
 

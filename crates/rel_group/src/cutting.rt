@@ -2,56 +2,24 @@
 ghost use Rattle.std.specs.Prelude.{◌≡◌, [], ◌∷◌, OnOk, IfOk};
 ghost use Rattle.std.specs.Option.{option_copied};
 ghost use Rattle.rel_ops.specs.Sorted.{sorted};
-ghost use Rattle.rel_group.specs.Keys.{key_cmp};
 ghost use Rattle.rel_group.specs.Groups as spec;
-ghost use Rattle.rel_group.specs.Calls.{key_lt, with_row, single, taken, finished, cut, all_collected};
+ghost use Rattle.rel_group.specs.Calls.{AreGroups, key_lt, with_row, taken, finished, cut};
+ghost use Rattle.rel_group.specs.Calls.{all_collected};
 
-use crate::keyed::{Keyed, keyed_rows};
+use crate::keyed::{Keyed, bound, keyed_rows};
+use crate::keys::compare_keys;
 use crate::parts::{Group, Groups};
+use crate::placing::{begin, few_groups};
 use dataset_types::Row;
 use expr_meaning::{Bindings, ScopeColumn};
-use relations::bind;
 use std::alloc::Global;
-use std::cmp::Ordering;
-use value_types::{ListOf, NoMemory, Value, Values, compare};
-
-fn compare_keys(a: &[Value], b: &[Value]) -> Ordering
-    ensures { result ≡ key_cmp a.now b.now }
-{
-    for i in 0..a.len() {
-        if b.len() <= i {
-            return Ordering::Greater;
-        }
-        match compare(&a[i], &b[i]) {
-            Ordering::Equal => {}
-            order => return order,
-        }
-    }
-    if a.len() < b.len() {
-        Ordering::Less
-    } else {
-        Ordering::Equal
-    }
-}
+use value_types::{ListOf, NoMemory, Values};
 
 fn sort_rows(rows: &mut Vec<Keyed>) -> Result<(), NoMemory>
     ensures { OnOk result (rows.new.items ≡ sorted key_lt rows.old.items) }
 {
     rows.sort_by(|a, b| compare_keys(a.key.as_slice(), b.key.as_slice()))?;
     Ok(())
-}
-
-fn begin(alloc: Global, row: Keyed) -> Result<Group, NoMemory>
-    ensures { IfOk result (λ g. g ≡ single row) }
-{
-    let Keyed { key, certain, row } = row;
-    let mut rows = ListOf::new(alloc)?;
-    rows.push(alloc, row)?;
-    Ok(Group {
-        key,
-        sure: certain,
-        rows,
-    })
 }
 
 fn go_on(alloc: Global, group: Group, row: Keyed) -> Result<Group, NoMemory>
@@ -125,6 +93,18 @@ fn collect_rows(alloc: Global, rows: ListOf<Keyed>) -> Result<Groups, NoMemory>
     cut(alloc, rows)
 }
 
+fn sorted_groups(
+    alloc: Global,
+    columns: &[ScopeColumn],
+    keys: Option<&[u32]>,
+    rows: &[Row],
+) -> Result<Groups, NoMemory>
+    ensures { IfOk result (AreGroups columns.now (option_copied keys.entry) rows.now) }
+{
+    let rows = keyed_rows(alloc, columns, keys, rows)?;
+    collect_rows(alloc, rows)
+}
+
 /// A group for each key, in ascending order.
 pub fn keyed_groups(
     alloc: Global,
@@ -132,10 +112,12 @@ pub fn keyed_groups(
     keys: Option<&[u32]>,
     rows: &[Row],
 ) -> Result<Groups, NoMemory>
-    ensures { IfOk result (λ gs. gs ≡ spec.keyed_groups columns.now (option_copied keys.entry) rows.now) }
+    ensures { IfOk result (AreGroups columns.now (option_copied keys.entry) rows.now) }
 {
-    let rows = keyed_rows(alloc, columns, keys, rows)?;
-    collect_rows(alloc, rows)
+    match few_groups(alloc, columns, keys, rows)? {
+        Some(groups) => Ok(groups),
+        None => sorted_groups(alloc, columns, keys, rows),
+    }
 }
 
 fn bound_rows(
@@ -147,7 +129,7 @@ fn bound_rows(
 {
     let mut all = ListOf::new(alloc)?;
     for row in rows {
-        all.push(alloc, bind(alloc, columns, row.values.as_slice())?)?;
+        all.push(alloc, bound(alloc, columns, row)?)?;
     }
     Ok(all)
 }

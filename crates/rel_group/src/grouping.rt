@@ -30,7 +30,8 @@ fn group_rows(
     query: Query,
     groups: Groups,
 ) -> Result<Batch, EvalFault>
-    ensures { Gives result (group_rows_in query.entry (option_copied having.entry) items.now groups) }
+    ensures { Gives result
+        (group_rows_in query.entry (option_copied having.entry) items.now groups) }
 {
     let tested = all_tested(alloc, having, groups, &query)?;
     let step = OfGroup { items, query };
@@ -84,7 +85,8 @@ pub fn group(
 ) -> Result<Rel, EvalFault>
     requires names { Distinct (item_names items.now) }
     requires places { IsTrue (are_places rel.now.columns keys.now) }
-    ensures { Gives result (spec.grouped rel.now keys.now (option_copied having.entry) items.now picks.now cell) }
+    ensures { Gives result
+        (spec.grouped rel.now keys.now (option_copied having.entry) items.now picks.now cell) }
 {
     let places = keys.as_slice();
     let of_key = key_columns(alloc, rel.columns(), places)?;
@@ -115,7 +117,8 @@ fn group_to(
     requires names { Distinct (item_names items.now) }
     requires columns { columns_in query rel.now items.now ≡ Ok columns }
     requires query { IsOf query rel.now }
-    ensures { Gives result (grouped_in query.entry columns rel.now (option_copied having.entry) items.now) }
+    ensures { Gives result
+        (grouped_in query.entry columns rel.now (option_copied having.entry) items.now) }
 {
     rel.law_of_rules();
     let made = rows_of(alloc, rel, having, items.as_slice(), query)?;

@@ -1,15 +1,16 @@
 //! The columns of a key, by their places.
-ghost use Rattle.std.specs.Prelude.{◌++◌, OnOk, ◌≡◌, ◌-◌, ◌==◌, IsTrue, IfOk, slice_get, take};
+ghost use Rattle.std.specs.Prelude.{◌++◌, OnOk, ◌≡◌, ◌-◌, ◌==◌, IsTrue, IfOk, slice_get};
 ghost use Rattle.std.specs.Option.{option_copied};
 ghost use Rattle.std.specs.List.{list_any};
 ghost use Rattle.relations.specs.Conditions.{kept_if};
 ghost use Rattle.rel_group.specs.Keys as spec;
-ghost use Rattle.rel_group.specs.Keys.{is_place, items_at, key_of, once};
+ghost use Rattle.rel_group.specs.Keys.{is_place, items_at, key_cmp, key_of, once};
 
 use dataset_types::MarkedValues;
 use relations::{ColumnRefs, Rel};
 use std::alloc::Global;
-use value_types::{Copied, ListOf, NoMemory};
+use std::cmp::Ordering;
+use value_types::{Copied, ListOf, NoMemory, Value, compare};
 
 /// Whether each of these is the place of a column, counted from 1.
 pub fn are_places(rel: &Rel, places: &ColumnRefs) -> bool
@@ -61,10 +62,40 @@ pub fn key_of(
     }
 }
 
-fn came_before(places: &[u32], at: usize, place: u32) -> bool
-    ensures { result ≡ list_any (λ q. q == place) (take at places.now) }
+/// By the first value that differs.
+pub fn compare_keys(a: &[Value], b: &[Value]) -> Ordering
+    ensures { result ≡ key_cmp a.now b.now }
 {
-    places.iter().take(at).any(|other| *other == place)
+    for i in 0..a.len() {
+        if b.len() <= i {
+            return Ordering::Greater;
+        }
+        match compare(&a[i], &b[i]) {
+            Ordering::Equal => {}
+            order => return order,
+        }
+    }
+    if a.len() < b.len() {
+        Ordering::Less
+    } else {
+        Ordering::Equal
+    }
+}
+
+/// Whether a place came before.
+fn came_before(seen: &[u32], place: u32) -> bool
+    ensures { result ≡ list_any (λ q. q == place) seen.now }
+{
+    seen.iter().any(|other| *other == place)
+}
+
+fn note(seen: &mut Vec<u32>, place: u32, is_new: bool) -> Result<(), NoMemory>
+    ensures { OnOk result (seen.new.items ≡ seen.old.items ++ kept_if is_new place) }
+{
+    if is_new {
+        seen.push(place)?;
+    }
+    Ok(())
 }
 
 fn push_if<T: Copied + Drop>(
@@ -91,11 +122,14 @@ pub fn once<T: Copied + Drop>(
     ensures { IfOk result (λ xs. xs ≡ once places.now items.now) }
 {
     let mut all = ListOf::new(alloc)?;
+    // A place is noted once, so there are no more to look through than there are columns.
+    let mut seen = Vec::new(alloc);
     for i in 0..places.len() {
         if items.len() <= i {
             return Ok(all);
         }
-        let is_new = !came_before(places, i, places[i]);
+        let is_new = !came_before(seen.as_slice(), places[i]);
+        note(&mut seen, places[i], is_new)?;
         push_if(alloc, &mut all, &items[i], is_new)?;
     }
     Ok(all)

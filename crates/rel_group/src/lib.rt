@@ -15,6 +15,7 @@ mod keyed;
 mod keys;
 mod laws;
 mod parts;
+mod placing;
 mod query;
 #[cfg(test)]
 mod tests;

@@ -4,14 +4,14 @@ ghost use Rattle.std.specs.Option.{option_copied};
 ghost use Rattle.std.specs.List.{list_any};
 ghost use Rattle.rel_group.specs.Groups as spec;
 ghost use Rattle.rel_group.specs.Keys.{items_at};
-ghost use Rattle.rel_group.specs.Calls as calls;
+ghost use Rattle.rel_group.specs.Calls.{is_marked};
 
 use crate::keys::item_at;
 use dataset_types::{Marked, Row};
 use relations::Rel;
 
 fn is_marked_at(values: &[Marked], place: u32) -> bool
-    ensures { result ≡ calls.is_marked (slice_get values.now (place - 1)) }
+    ensures { result ≡ is_marked (slice_get values.now (place - 1)) }
 {
     match item_at(values, place) {
         None => false,
@@ -20,7 +20,7 @@ fn is_marked_at(values: &[Marked], place: u32) -> bool
 }
 
 fn any_place_marked(places: &[u32], values: &[Marked]) -> bool
-    ensures { result ≡ list_any (λ p. calls.is_marked (slice_get values.now (p - 1))) places.now }
+    ensures { result ≡ list_any (λ p. is_marked (slice_get values.now (p - 1))) places.now }
 {
     places.iter().any(|place| is_marked_at(values, *place))
 }

@@ -1,6 +1,6 @@
 use Rattle.std.specs.Option.{option_copied}
 use Rattle.rel_group.proofs.KeyedGroups.{groups_keyed}
-use Rattle.rel_group.proofs.cutting.keyed_groups.Goals as goal
+use Rattle.rel_group.proofs.cutting.sorted_groups.Goals as goal
 
 pub returns : goal.returns
 returns c =
