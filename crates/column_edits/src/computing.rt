@@ -135,7 +135,12 @@ fn formula_rows(alloc: Global, how: &InRow, rows: &[Row]) -> Result<Rows, EvalFa
     Ok(all)
 }
 
-/// The value of a column computed from the other values of its row, with the marks of what was looked at.
+/// The value of a column computed from the values of its row, with the marks of what was looked at.
+///
+/// - Shape: an Int goes into a Fixed column as its widening, and NULL into each column.
+/// - Error: `NoColumn` where no column has the name; then the first error of the expression's types; then `TypeFault` where its type
+///   doesn't go into the column; then the first of evaluation, or `Overflow` of a widening, in the order of rows; then `TooLarge`.
+/// - Source: docs/EDITING.md; docs/EXPRESSIONS.md.
 pub fn formula(
     alloc: Global,
     table: &Table,
