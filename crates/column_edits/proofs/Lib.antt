@@ -4,6 +4,7 @@ pub mod Places
 pub mod Names
 pub mod PlanRules
 pub mod TableRules
+pub mod Standing
 pub mod ChangeLaws
 pub mod FormulaLaws
 pub mod FormulaCalls

@@ -22,13 +22,13 @@ use Rattle.column_edits.proofs.Names.{names_stand, not_taken, found_is, found_na
 
 -- ---- columns as they stand
 
-from_here : (n : ℕ) → n + 0 ≡ n
+pub from_here : (n : ℕ) → n + 0 ≡ n
 from_here n = omega arith
 
-from_next : (n q : ℕ) → n + suc q ≡ (n + 1) + q
+pub from_next : (n q : ℕ) → n + suc q ≡ (n + 1) + q
 from_next n q = omega arith
 
-from_start : (q : ℕ) → 0 + q ≡ q
+pub from_start : (q : ℕ) → 0 + q ≡ q
 from_start q = omega arith
 
 stands : (columns : List Column) (v : Value) (n : ℕ) (cs : List Column) → ((q : ℕ) → kind_at columns (n + q) ≡ kind_at cs q) → Each (Takes columns v) (map standing (enumerate_from n cs))

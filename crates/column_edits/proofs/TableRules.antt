@@ -123,7 +123,7 @@ emptied_columns name (c ∷ cs) = by (has_name name c) (emptied_columns name cs)
     by true e = ap (λ z. c.column ∷ z) e
     by false e = ap (λ z. c.column ∷ z) e
 
-stand_columns : (columns : List Column) → columns_of (as_they_stand columns) ≡ columns
+pub stand_columns : (columns : List Column) → columns_of (as_they_stand columns) ≡ columns
 stand_columns columns = from 0 columns
   where
     from : (n : ℕ) (cs : List Column) → columns_of (map standing (enumerate_from n cs)) ≡ cs

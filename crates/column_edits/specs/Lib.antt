@@ -7,5 +7,6 @@ pub mod Formula
 pub mod Laws
 -- layouts: the columns of a result, and where their values come from
 pub mod Layout
+pub mod Same
 -- what the functions inside the crate ask of each other
 pub mod Rules

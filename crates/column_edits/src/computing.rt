@@ -13,7 +13,7 @@ use expr_lang::Expr;
 use expr_meaning::{ExprType, Scope, ScopeColumn, eval, type_of};
 use relations::bind;
 use std::alloc::Global;
-use value_types::{ColumnType, Name, NoMemory, Value, widen};
+use value_types::{ArcOf, ColumnType, Name, NoMemory, Value, widen};
 
 fn scope_of(alloc: Global, columns: &[Column]) -> Result<Scope, NoMemory>
     ensures { IfOk result (λ s. s ≡ spec.scope columns.now) }
@@ -148,7 +148,7 @@ pub fn formula(
     expr: &Expr,
     picks: &Picks,
     cell: u32,
-) -> Result<Table, EvalFault>
+) -> Result<ArcOf<Table>, EvalFault>
     ensures { Gives result (spec.formula column.now expr.now picks.now cell table.now) }
 {
     table.law_of_rules();

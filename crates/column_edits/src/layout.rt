@@ -1,5 +1,5 @@
 //! Layouts: the columns of a result, and where the values of each come from.
-ghost use Rattle.std.specs.Prelude.{◌≡◌, IfOk, map};
+ghost use Rattle.std.specs.Prelude.{◌≡◌, ◌↔◌, IfOk, IsTrue, map};
 ghost use Rattle.column_edits.specs.Layout as spec;
 ghost use Rattle.column_edits.specs.Layout.{laid};
 ghost use Rattle.column_edits.specs.Changes as change;
@@ -31,6 +31,25 @@ impl LaidColumn {
     }
 }
 
+impl PartialEq for LaidColumn {
+    ghost use Rattle.std.specs.Cmp.{partial_equiv_from_equiv};
+    ghost use Rattle.column_edits.specs.Same.{same_laid, laid_equiv};
+
+    ghost eq = { same_laid };
+
+    ghost laws = { partial_equiv_from_equiv laid_equiv };
+
+    fn eq(&self, other: &LaidColumn) -> bool {
+        self.column == other.column && self.source == other.source
+    }
+}
+
+impl Eq for LaidColumn {
+    ghost use Rattle.column_edits.specs.Same.{laid_equiv};
+
+    ghost laws = { laid_equiv };
+}
+
 /// The columns as they stand, each with its own values.
 pub(crate) fn as_they_stand(alloc: Global, columns: &[Column]) -> Result<Layout, NoMemory>
     ensures { IfOk result (λ l. l ≡ spec.as_they_stand columns.now) }
@@ -47,6 +66,25 @@ pub(crate) fn as_they_stand(alloc: Global, columns: &[Column]) -> Result<Layout,
         )?;
     }
     Ok(all)
+}
+
+#[tactic(auto, using(crate::specs::Same::layout_decides))]
+fn same_layout(a: &Layout, b: &Layout) -> bool
+    ensures { IsTrue result ↔ (a.now ≡ b.now) }
+{
+    a == b
+}
+
+/// Whether a layout leaves the columns as they stand.
+pub(crate) fn is_standing(
+    alloc: Global,
+    layout: &Layout,
+    columns: &[Column],
+) -> Result<bool, NoMemory>
+    ensures { IfOk result (λ b. IsTrue b ↔ (layout.now ≡ spec.as_they_stand columns.now)) }
+{
+    let standing = as_they_stand(alloc, columns)?;
+    Ok(same_layout(layout, &standing))
 }
 
 /// The columns of a layout.

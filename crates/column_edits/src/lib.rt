@@ -14,6 +14,8 @@ mod plans;
 mod result;
 #[cfg(test)]
 mod tests;
+#[cfg(test)]
+mod tests_formula;
 
 pub use commands::{delete_column, insert_column, keep_columns, move_column, rename_column};
 pub use computing::formula;

@@ -5,31 +5,36 @@ ghost use Rattle.dataset_types.specs.Tables.{table_of};
 ghost use Rattle.column_edits.specs.Changes.{laid_out, whole};
 ghost use Rattle.column_edits.specs.Rules.{KeepsRules, IsLayout};
 
-use crate::layout::{Layout, columns_of, laid_rows};
+use crate::layout::{Layout, columns_of, is_standing, laid_rows};
 use cell_errors::{CellError, EvalFault};
 use dataset_types::{Columns, Rows, Table, TableFault};
 use std::alloc::Global;
+use value_types::ArcOf;
 
-/// The table of these parts, where it is within the limits.
+/// The table of these parts, to be shared, where it is within the limits.
 pub(crate) fn whole_table(
     alloc: Global,
     columns: Columns,
     rows: Rows,
     is_open: bool,
     is_loose: bool,
-) -> Result<Table, EvalFault>
+) -> Result<ArcOf<Table>, EvalFault>
     requires { KeepsRules (table_of columns rows is_open is_loose) }
     ensures { Gives result (whole (table_of columns rows is_open is_loose)) }
 {
     match Table::new(alloc, columns, rows, is_open, is_loose) {
-        Ok(table) => Ok(table),
+        Ok(table) => Ok(ArcOf::new(alloc, table)?),
         Err(TableFault::TooLarge) => Err(EvalFault::Error(CellError::TooLarge)),
         Err(TableFault::NoMemory) => Err(EvalFault::NoMemory),
     }
 }
 
 /// A table under a layout, with NULL in the columns without a source.
-pub(crate) fn lay_out(alloc: Global, table: &Table, layout: &Layout) -> Result<Table, EvalFault>
+pub(crate) fn lay_out(
+    alloc: Global,
+    table: &Table,
+    layout: &Layout,
+) -> Result<ArcOf<Table>, EvalFault>
     requires { IsLayout table.now.columns layout.now }
     ensures { Gives result (whole (laid_out layout.now table.now)) }
 {
@@ -37,4 +42,21 @@ pub(crate) fn lay_out(alloc: Global, table: &Table, layout: &Layout) -> Result<T
     let columns = columns_of(alloc, layout.as_slice())?;
     let rows = laid_rows(alloc, layout.as_slice(), table.rows().as_slice())?;
     whole_table(alloc, columns, rows, table.is_open(), table.is_loose())
+}
+
+/// A shared table under a layout: the same one, shared once more, where the layout leaves its columns as they stand.
+pub(crate) fn lay_out_shared(
+    alloc: Global,
+    table: &ArcOf<Table>,
+    layout: &Layout,
+) -> Result<ArcOf<Table>, EvalFault>
+    requires { IsLayout table.now.columns layout.now }
+    ensures { Gives result (whole (laid_out layout.now table.now)) }
+{
+    let own = table.get();
+    own.law_of_rules();
+    if is_standing(alloc, layout, own.columns().as_slice())? {
+        return Ok(table.copy(alloc)?);
+    }
+    lay_out(alloc, own, layout)
 }

@@ -3,29 +3,27 @@
 ghost use Rattle.std.specs.Prelude.{◌≡◌, IfOk};
 ghost use Rattle.dataset_types.specs.Tables.{Distinct, column_names, row_ids};
 
-use crate::{delete_column, formula, insert_column, keep_columns, move_column, rename_column};
+use crate::{delete_column, insert_column, keep_columns, move_column, rename_column};
 use cell_errors::{CellError, EvalFault};
 use dataset_types::{
-    Column, Columns, Marked, MarkedValues, Picks, Row, Rows, Table, law_of_numbers, names_distinct,
+    Column, Columns, Marked, MarkedValues, Row, Rows, Table, law_of_numbers, names_distinct,
     rows_fit,
 };
-use expr_lang::{BinaryOp, Expr};
-use sqlite_items::Boxed;
 use std::alloc::Global;
 use std::process::Abort;
 use std::test::*;
 use value_types::{
-    ColumnType, Name, Names, NoMemory, RowId, Value, Words, id_text, literal_text, read_name,
+    ArcOf, ColumnType, Name, Names, NoMemory, RowId, Value, Words, id_text, literal_text, read_name,
 };
 
 // Too much for a Fixed.
 const LARGE: i64 = 1_000_000_000_000_000;
 
-fn named(text: &str) -> Result<Name, NoMemory> {
+pub(crate) fn named(text: &str) -> Result<Name, NoMemory> {
     read_name(text.as_bytes()).ok_or(NoMemory)
 }
 
-fn columns(alloc: Global, listed: &[(&str, ColumnType)]) -> Result<Columns, NoMemory> {
+pub(crate) fn columns(alloc: Global, listed: &[(&str, ColumnType)]) -> Result<Columns, NoMemory> {
     let mut columns = Columns::new(alloc)?;
     for (name, kind) in listed {
         let name = named(name)?;
@@ -90,7 +88,17 @@ fn rows(alloc: Global) -> Result<Rows, NoMemory>
     Ok(rows)
 }
 
-fn prices(rt: &impl Abort, alloc: Global) -> Result<Table, EvalFault> {
+pub(crate) fn shared(
+    alloc: Global,
+    made: Result<Table, dataset_types::TableFault>,
+) -> Result<ArcOf<Table>, EvalFault> {
+    match made {
+        Ok(table) => Ok(ArcOf::new(alloc, table)?),
+        Err(_) => Err(EvalFault::NoMemory),
+    }
+}
+
+pub(crate) fn prices(rt: &impl Abort, alloc: Global) -> Result<ArcOf<Table>, EvalFault> {
     let listed = [
         ("n", ColumnType::Int),
         ("price", ColumnType::Fixed),
@@ -100,7 +108,7 @@ fn prices(rt: &impl Abort, alloc: Global) -> Result<Table, EvalFault> {
     let rows = rows(alloc)?;
     assert!(rt; names_distinct(columns.as_slice()));
     assert!(rt; rows_fit(columns.as_slice(), rows.as_slice()));
-    Table::new(alloc, columns, rows, true, false).map_err(|_| EvalFault::NoMemory)
+    shared(alloc, Table::new(alloc, columns, rows, true, false))
 }
 
 fn push_column(alloc: Global, out: &mut Words, column: &Column) -> Result<(), NoMemory> {
@@ -149,27 +157,32 @@ fn name_of(error: CellError) -> &'static str {
     }
 }
 
-fn line_of(alloc: Global, answer: &Result<Table, EvalFault>) -> Result<Words, NoMemory> {
+fn line_of(alloc: Global, answer: &Result<ArcOf<Table>, EvalFault>) -> Result<Words, NoMemory> {
     let mut out = Words::new(alloc)?;
     match answer {
-        Ok(table) => push_table(alloc, &mut out, table)?,
+        Ok(table) => push_table(alloc, &mut out, table.get())?,
         Err(EvalFault::Error(error)) => out.push_text(alloc, name_of(*error))?,
         Err(EvalFault::NoMemory) => return Err(NoMemory),
     }
     Ok(out)
 }
 
-fn gives(alloc: Global, answer: &Result<Table, EvalFault>, want: &str) -> bool {
+pub(crate) fn gives(alloc: Global, answer: &Result<ArcOf<Table>, EvalFault>, want: &str) -> bool {
     match line_of(alloc, answer) {
         Ok(line) => line.as_text() == want,
         Err(_) => false,
     }
 }
 
-fn inserted(rt: &impl Abort, alloc: Global, name: &str, at: u32) -> Result<Table, EvalFault> {
+fn inserted(
+    rt: &impl Abort,
+    alloc: Global,
+    name: &str,
+    at: u32,
+) -> Result<ArcOf<Table>, EvalFault> {
     insert_column(
         alloc,
-        &prices(rt, alloc)?,
+        prices(rt, alloc)?.get(),
         &named(name)?,
         ColumnType::Bool,
         at,
@@ -202,25 +215,25 @@ fn a_column_is_put_in_before_a_place(rt: HostRuntime) {
     }
 }
 
-fn with_32_columns(rt: &impl Abort, alloc: Global) -> Result<Table, EvalFault> {
+fn with_32_columns(rt: &impl Abort, alloc: Global) -> Result<ArcOf<Table>, EvalFault> {
     let mut table = prices(rt, alloc)?;
     for letter in b'a'..=b'z' {
         if letter != b'n' {
             let name = read_name(&[letter]).ok_or(NoMemory)?;
-            table = insert_column(alloc, &table, &name, ColumnType::Bool, 1)?;
+            table = insert_column(alloc, table.get(), &name, ColumnType::Bool, 1)?;
         }
     }
     for digit in b'0'..=b'3' {
         let name = read_name(&[b'a', digit]).ok_or(NoMemory)?;
-        table = insert_column(alloc, &table, &name, ColumnType::Bool, 1)?;
+        table = insert_column(alloc, table.get(), &name, ColumnType::Bool, 1)?;
     }
     Ok(table)
 }
 
-fn one_more(rt: &impl Abort, alloc: Global, name: &str) -> Result<Table, EvalFault> {
+fn one_more(rt: &impl Abort, alloc: Global, name: &str) -> Result<ArcOf<Table>, EvalFault> {
     let table = with_32_columns(rt, alloc)?;
-    assert!(rt; table.columns().len() == 32);
-    insert_column(alloc, &table, &named(name)?, ColumnType::Text, 33)
+    assert!(rt; table.get().columns().len() == 32);
+    insert_column(alloc, table.get(), &named(name)?, ColumnType::Text, 33)
 }
 
 #[test]
@@ -230,17 +243,22 @@ fn a_33rd_column_is_too_much(rt: HostRuntime) {
     assert!(rt; gives(alloc, &one_more(&rt, alloc, "q"), "NameTaken"));
 }
 
-fn deleted(rt: &impl Abort, alloc: Global, name: &str) -> Result<Table, EvalFault> {
-    delete_column(alloc, &prices(rt, alloc)?, &named(name)?)
+fn deleted(rt: &impl Abort, alloc: Global, name: &str) -> Result<ArcOf<Table>, EvalFault> {
+    delete_column(alloc, prices(rt, alloc)?.get(), &named(name)?)
 }
 
-fn all_deleted(rt: &impl Abort, alloc: Global) -> Result<Table, EvalFault> {
+fn all_deleted(rt: &impl Abort, alloc: Global) -> Result<ArcOf<Table>, EvalFault> {
     let two = deleted(rt, alloc, "n")?;
-    let one = delete_column(alloc, &two, &named("note")?)?;
-    delete_column(alloc, &one, &named("price")?)
+    let one = delete_column(alloc, two.get(), &named("note")?)?;
+    delete_column(alloc, one.get(), &named("price")?)
 }
 
-fn renamed(rt: &impl Abort, alloc: Global, name: &str, to: &str) -> Result<Table, EvalFault> {
+fn renamed(
+    rt: &impl Abort,
+    alloc: Global,
+    name: &str,
+    to: &str,
+) -> Result<ArcOf<Table>, EvalFault> {
     rename_column(alloc, &prices(rt, alloc)?, &named(name)?, &named(to)?)
 }
 
@@ -272,6 +290,16 @@ fn columns_go_and_get_other_names(rt: HostRuntime) {
             "n",
             "n:int price:fixed note:text | #1 3 2.5000 \"x\" | ?#2 1000000000000000 ~null \"y\" open",
         ),
+        (
+            "n",
+            "z",
+            "z:int price:fixed note:text | #1 3 2.5000 \"x\" | ?#2 1000000000000000 ~null \"y\" open",
+        ),
+        (
+            "note",
+            "z",
+            "n:int price:fixed z:text | #1 3 2.5000 \"x\" | ?#2 1000000000000000 ~null \"y\" open",
+        ),
         ("n", "note", "NameTaken"),
         ("z", "note", "NoColumn"),
     ] {
@@ -282,7 +310,7 @@ fn columns_go_and_get_other_names(rt: HostRuntime) {
     }
 }
 
-fn moved(rt: &impl Abort, alloc: Global, name: &str, at: u32) -> Result<Table, EvalFault> {
+fn moved(rt: &impl Abort, alloc: Global, name: &str, at: u32) -> Result<ArcOf<Table>, EvalFault> {
     move_column(alloc, &prices(rt, alloc)?, &named(name)?, at)
 }
 
@@ -296,12 +324,24 @@ fn names_of(alloc: Global, columns: &[Column]) -> Result<Names, NoMemory>
     Ok(names)
 }
 
-fn kept(rt: &impl Abort, alloc: Global, first: &str, second: &str) -> Result<Table, EvalFault> {
+fn kept(
+    rt: &impl Abort,
+    alloc: Global,
+    first: &str,
+    second: &str,
+) -> Result<ArcOf<Table>, EvalFault> {
     let listed = [(first, ColumnType::Int), (second, ColumnType::Int)];
     let columns = columns(alloc, &listed)?;
     assert!(rt; names_distinct(columns.as_slice()));
     let names = names_of(alloc, columns.as_slice())?;
     keep_columns(alloc, &prices(rt, alloc)?, &names)
+}
+
+fn all_kept(rt: &impl Abort, alloc: Global) -> Result<ArcOf<Table>, EvalFault> {
+    let table = prices(rt, alloc)?;
+    assert!(rt; names_distinct(table.get().columns().as_slice()));
+    let names = names_of(alloc, table.get().columns().as_slice())?;
+    keep_columns(alloc, &table, &names)
 }
 
 #[test]
@@ -323,6 +363,16 @@ fn columns_are_moved_and_chosen(rt: HostRuntime) {
             2,
             "n:int price:fixed note:text | #1 3 2.5000 \"x\" | ?#2 1000000000000000 ~null \"y\" open",
         ),
+        (
+            "n",
+            1,
+            "n:int price:fixed note:text | #1 3 2.5000 \"x\" | ?#2 1000000000000000 ~null \"y\" open",
+        ),
+        (
+            "note",
+            3,
+            "n:int price:fixed note:text | #1 3 2.5000 \"x\" | ?#2 1000000000000000 ~null \"y\" open",
+        ),
         ("n", 0, "NoColumn"),
         ("n", 4, "NoColumn"),
         ("z", 1, "NoColumn"),
@@ -334,89 +384,12 @@ fn columns_are_moved_and_chosen(rt: HostRuntime) {
     }
     let two = "note:text price:fixed | #1 \"x\" 2.5000 | ?#2 \"y\" ~null open";
     assert!(rt; gives(alloc, &kept(&rt, alloc, "note", "price"), two));
+    assert!(rt;
+        gives(
+            alloc,
+            &all_kept(&rt, alloc),
+            "n:int price:fixed note:text | #1 3 2.5000 \"x\" | ?#2 1000000000000000 ~null \"y\" open"
+        )
+    );
     assert!(rt; gives(alloc, &kept(&rt, alloc, "note", "z"), "NoColumn"));
-}
-
-fn column(qualifier: Option<Name>, name: &str) -> Result<Expr, NoMemory> {
-    Ok(Expr::Column {
-        qualifier,
-        name: named(name)?,
-    })
-}
-
-fn binary(alloc: Global, op: BinaryOp, left: Expr, right: i64) -> Result<Expr, NoMemory> {
-    let left = Boxed::new(alloc, left)?;
-    let right = Boxed::new(alloc, Expr::Literal(Value::Int(right)))?;
-    Ok(Expr::Binary(op, left, right))
-}
-
-fn by(
-    rt: &impl Abort,
-    alloc: Global,
-    name: &str,
-    of: &str,
-    op: BinaryOp,
-    right: i64,
-) -> Result<Table, EvalFault> {
-    let expr = binary(alloc, op, column(None, of)?, right)?;
-    formula(
-        alloc,
-        &prices(rt, alloc)?,
-        &named(name)?,
-        &expr,
-        &Picks::new(alloc)?,
-        1,
-    )
-}
-
-fn of_qualified(rt: &impl Abort, alloc: Global) -> Result<Table, EvalFault> {
-    let expr = column(Some(named("p")?), "price")?;
-    formula(
-        alloc,
-        &prices(rt, alloc)?,
-        &named("price")?,
-        &expr,
-        &Picks::new(alloc)?,
-        1,
-    )
-}
-
-#[test]
-fn a_column_is_computed_row_by_row(rt: HostRuntime) {
-    let alloc = rt.alloc();
-    for (name, of, op, right, want) in [
-        (
-            "n",
-            "n",
-            BinaryOp::Add,
-            1,
-            "n:int price:fixed note:text | #1 4 2.5000 \"x\" | ?#2 1000000000000001 ~null \"y\" open",
-        ),
-        (
-            "price",
-            "price",
-            BinaryOp::Add,
-            1,
-            "n:int price:fixed note:text | #1 3 3.5000 \"x\" | ?#2 1000000000000000 ~null \"y\" open",
-        ),
-        (
-            "price",
-            "n",
-            BinaryOp::Remainder,
-            2,
-            "n:int price:fixed note:text | #1 3 1.0000 \"x\" | ?#2 1000000000000000 0.0000 \"y\" open",
-        ),
-        ("price", "n", BinaryOp::Add, 0, "Overflow"),
-        ("n", "n", BinaryOp::Divide, 0, "ZeroDivisor"),
-        ("n", "price", BinaryOp::Add, 1, "TypeFault"),
-        ("n", "note", BinaryOp::Add, 1, "TypeFault"),
-        ("n", "z", BinaryOp::Add, 1, "NoColumn"),
-        ("z", "note", BinaryOp::Add, 1, "NoColumn"),
-    ] {
-        assert!(rt;
-            gives(alloc, &by(&rt, alloc, name, of, op, right), want),
-            "{name} by {of}"
-        );
-    }
-    assert!(rt; gives(alloc, &of_qualified(&rt, alloc), "NoColumn"));
 }

@@ -7,6 +7,7 @@ pub mod Results
 pub mod InsertLaws
 pub mod DeleteLaws
 pub mod MoveLaws
+pub mod Staying
 pub mod SetLaws
 pub mod SortLaws
 mod Examples

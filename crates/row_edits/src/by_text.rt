@@ -77,7 +77,8 @@ pub(crate) fn is_unsure(
     }
 }
 
-fn up_to(alloc: Global, text: &Words, rows: &[Row]) -> Result<usize, NoMemory>
+/// How many rows there are up to the first of a text, or in all where there is none.
+pub(crate) fn up_to(alloc: Global, text: &Words, rows: &[Row]) -> Result<usize, NoMemory>
     ensures value { IfOk result (λ n. n ≡ spec.up_to row_id text.now rows.now) }
     ensures within { IfOk result (λ n. n ≤ length rows.now) }
 {
@@ -89,7 +90,12 @@ fn up_to(alloc: Global, text: &Words, rows: &[Row]) -> Result<usize, NoMemory>
     Ok(rows.len())
 }
 
-fn place_of(alloc: Global, place: &Option<Words>, rows: &[Row]) -> Result<usize, NoMemory>
+/// How many rows come before a place.
+pub(crate) fn place_of(
+    alloc: Global,
+    place: &Option<Words>,
+    rows: &[Row],
+) -> Result<usize, NoMemory>
     ensures value { IfOk result (λ n. n ≡ spec.place_of row_id place.now rows.now) }
     ensures within { IfOk result (λ n. n ≤ length rows.now) }
 {

@@ -9,7 +9,7 @@ use crate::whole::limited;
 use cell_errors::{CellError, EvalFault};
 use dataset_types::{Rows, Table};
 use std::alloc::Global;
-use value_types::Words;
+use value_types::{ArcOf, Words};
 
 fn deleted(alloc: Global, row: &Words, rows: &Rows) -> Result<Rows, EvalFault>
     ensures { Gives result (deleted row_id row.now rows.now) }
@@ -26,7 +26,7 @@ fn deleted(alloc: Global, row: &Words, rows: &Rows) -> Result<Rows, EvalFault>
 /// - Marks: an open dataset stays open, also where its last unsure row goes.
 /// - Error: `NoRow` where the row isn't there.
 /// - Source: docs/EDITING.md.
-pub fn delete_row(alloc: Global, table: &Table, row: &Words) -> Result<Table, EvalFault>
+pub fn delete_row(alloc: Global, table: &Table, row: &Words) -> Result<ArcOf<Table>, EvalFault>
     ensures { Gives result (row_deleted table.now row.now) }
 {
     table.law_of_rules();

@@ -11,7 +11,7 @@ use crate::whole::limited;
 use cell_errors::{CellError, EvalFault};
 use dataset_types::{Column, Marked, MarkedValues, Row, Rows, Table};
 use std::alloc::Global;
-use value_types::{Name, NoMemory, RowId, Value, Words};
+use value_types::{ArcOf, Name, NoMemory, RowId, Value, Words};
 
 fn null_row(alloc: Global, name: &Name, columns: &[Column]) -> Result<Row, NoMemory>
     ensures { IfOk result (λ r. r ≡ null_row name.now columns.now) }
@@ -62,7 +62,7 @@ pub fn insert_row(
     table: &Table,
     row: &Name,
     after: &Option<Words>,
-) -> Result<Table, EvalFault>
+) -> Result<ArcOf<Table>, EvalFault>
     ensures { Gives result (row_inserted table.now row.now after.now) }
 {
     table.law_of_rules();

@@ -15,6 +15,10 @@ mod setting;
 mod sorting;
 #[cfg(test)]
 mod tests;
+#[cfg(test)]
+mod tests_ids;
+#[cfg(test)]
+mod tests_limits;
 mod whole;
 
 pub use deleting::delete_row;

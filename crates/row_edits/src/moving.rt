@@ -5,12 +5,12 @@ ghost use Rattle.row_edits.specs.Rows as spec;
 ghost use Rattle.row_edits.specs.Move as move;
 ghost use Rattle.row_edits.specs.Tables.{row_id};
 
-use crate::by_text::{is_place, is_there, is_unsure, put_after, take_out};
+use crate::by_text::{is_place, is_there, is_unsure, place_of, put_after, take_out, up_to};
 use crate::whole::limited;
 use cell_errors::{CellError, EvalFault};
 use dataset_types::{Row, Rows, Table};
 use std::alloc::Global;
-use value_types::{NoMemory, Words};
+use value_types::{ArcOf, NoMemory, Words};
 
 fn is_itself(row: &Words, after: &Option<Words>) -> bool
     ensures { result ≡ spec.is_itself row.now after.now }
@@ -51,18 +51,12 @@ fn follows_unsure(
     Ok(!is_itself(row, after) && is_unsure(alloc, after, rows)?)
 }
 
-/// A dataset with a row put after another, or first. A row that is put after itself stays where it is.
-///
-/// - Shape: rows are given by their ids' texts.
-/// - Marks: after another row that is unsure the order of rows is uncertain.
-/// - Error: `NoRow` where either row isn't there.
-/// - Source: docs/EDITING.md.
-pub fn move_row(
+fn moved_table(
     alloc: Global,
     table: &Table,
     row: &Words,
     after: &Option<Words>,
-) -> Result<Table, EvalFault>
+) -> Result<ArcOf<Table>, EvalFault>
     ensures { Gives result (move.row_moved table.now row.now after.now) }
 {
     table.law_of_rules();
@@ -75,4 +69,50 @@ pub fn move_row(
         table.is_open(),
         is_loose,
     )
+}
+
+fn is_in_place(
+    alloc: Global,
+    row: &Words,
+    after: &Option<Words>,
+    rows: &[Row],
+) -> Result<bool, NoMemory>
+    ensures { IfOk result (λ b. b ≡ spec.is_in_place row_id row.now after.now rows.now) }
+{
+    Ok(is_itself(row, after) || up_to(alloc, row, rows)? == place_of(alloc, after, rows)? + 1)
+}
+
+// Whether the move leaves the dataset as it is.
+fn stays(alloc: Global, row: &Words, after: &Option<Words>, table: &Table) -> Result<bool, NoMemory>
+    ensures { IfOk result (λ b. b ≡ move.stays table.now row.now after.now) }
+{
+    let rows = table.rows().as_slice();
+    Ok(
+        is_in_place(alloc, row, after, rows)?
+            && is_there(alloc, row, rows)?
+            && is_place(alloc, after, rows)?
+            && (table.is_loose() || !follows_unsure(alloc, row, after, rows)?),
+    )
+}
+
+/// A dataset with a row put after another, or first. A row that is put after itself stays where it is.
+///
+/// - Shape: rows are given by their ids' texts. Where nothing changes, the dataset is the same one, shared once more.
+/// - Marks: after another row that is unsure the order of rows is uncertain.
+/// - Error: `NoRow` where either row isn't there.
+/// - Source: docs/EDITING.md.
+pub fn move_row(
+    alloc: Global,
+    table: &ArcOf<Table>,
+    row: &Words,
+    after: &Option<Words>,
+) -> Result<ArcOf<Table>, EvalFault>
+    ensures { Gives result (move.row_moved table.now row.now after.now) }
+{
+    let own = table.get();
+    own.law_of_rules();
+    if stays(alloc, row, after, own)? {
+        return Ok(table.copy(alloc)?);
+    }
+    moved_table(alloc, own, row, after)
 }

@@ -11,7 +11,7 @@ use crate::whole::limited;
 use cell_errors::{CellError, EvalFault};
 use dataset_types::{Marked, MarkedValues, Row, Rows, Table};
 use std::alloc::Global;
-use value_types::{Name, NoMemory, Value, Words};
+use value_types::{ArcOf, Name, NoMemory, Value, Words};
 
 fn with_value(alloc: Global, at: usize, value: &Value, row: Row) -> Result<Row, NoMemory>
     ensures { IfOk result (λ r. r ≡ with_value at value.now row) }
@@ -62,7 +62,7 @@ pub fn set_value(
     row: &Words,
     column: &Name,
     value: &Value,
-) -> Result<Table, EvalFault>
+) -> Result<ArcOf<Table>, EvalFault>
     ensures { Gives result (value_set table.now row.now column.now value.now) }
 {
     table.law_of_rules();

@@ -11,6 +11,7 @@ use rel_ops::sort as sort_rel;
 use relations::{Rel, SortKey, SortKeys};
 use sheet_commands::{SortName, SortNames};
 use std::alloc::Global;
+use value_types::ArcOf;
 
 fn sort_key(columns: &[Column], by: &SortName) -> Result<SortKey, EvalFault>
     requires { length columns.now ≤ 32 }
@@ -40,11 +41,12 @@ fn sort_keys(alloc: Global, columns: &[Column], by: &[SortName]) -> Result<SortK
 /// - Marks: loose where it was, or where a sure row is placed by a marked value.
 /// - Error: `NoColumn` where a named column isn't there.
 /// - Source: docs/EDITING.md; docs/SELECT.md.
-pub fn sort(alloc: Global, table: &Table, by: &SortNames) -> Result<Table, EvalFault>
+pub fn sort(alloc: Global, table: &Table, by: &SortNames) -> Result<ArcOf<Table>, EvalFault>
     ensures { Gives result (rows_sorted table.now by.now) }
 {
     table.law_of_rules();
     let keys = sort_keys(alloc, table.columns().as_slice(), by.as_slice())?;
     let rel = Rel::of_table(alloc, table, &None)?;
-    sort_rel(alloc, rel, &keys)?.into_table(alloc)
+    let sorted = sort_rel(alloc, rel, &keys)?.into_table(alloc)?;
+    Ok(ArcOf::new(alloc, sorted)?)
 }

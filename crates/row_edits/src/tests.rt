@@ -9,19 +9,18 @@ use dataset_types::{
     names_distinct, rows_fit,
 };
 use sheet_commands::{SortName, SortNames};
-use sqlite_items::Boxed;
 use std::alloc::Global;
 use std::process::Abort;
 use std::test::*;
 use value_types::{
-    ColumnType, Name, NoMemory, RowId, Value, Values, Words, id_text, literal_text, read_name,
+    ArcOf, ColumnType, Name, NoMemory, RowId, Value, Words, id_text, literal_text, read_name,
 };
 
-fn named(text: &str) -> Result<Name, NoMemory> {
+pub(crate) fn named(text: &str) -> Result<Name, NoMemory> {
     read_name(text.as_bytes()).ok_or(NoMemory)
 }
 
-fn words(alloc: Global, text: &str) -> Result<Words, NoMemory> {
+pub(crate) fn words(alloc: Global, text: &str) -> Result<Words, NoMemory> {
     let mut all = Words::new(alloc)?;
     all.push_text(alloc, text)?;
     Ok(all)
@@ -35,7 +34,7 @@ fn place(alloc: Global, text: &str) -> Result<Option<Words>, NoMemory> {
     Ok(Some(words(alloc, text)?))
 }
 
-fn columns(alloc: Global) -> Result<Columns, NoMemory> {
+pub(crate) fn columns(alloc: Global) -> Result<Columns, NoMemory> {
     let mut columns = Columns::new(alloc)?;
     for (name, kind) in [("n", ColumnType::Int), ("price", ColumnType::Fixed)] {
         let name = named(name)?;
@@ -44,7 +43,12 @@ fn columns(alloc: Global) -> Result<Columns, NoMemory> {
     Ok(columns)
 }
 
-fn values(alloc: Global, n: i64, price: Value, marked: bool) -> Result<MarkedValues, NoMemory> {
+pub(crate) fn values(
+    alloc: Global,
+    n: i64,
+    price: Value,
+    marked: bool,
+) -> Result<MarkedValues, NoMemory> {
     let mut values = MarkedValues::new(alloc)?;
     let first = Marked {
         value: Value::Int(n),
@@ -87,27 +91,33 @@ fn rows(alloc: Global, sure: bool) -> Result<Rows, NoMemory>
     Ok(rows)
 }
 
-fn made(answer: Result<Table, dataset_types::TableFault>) -> Result<Table, EvalFault> {
-    answer.map_err(|_| EvalFault::NoMemory)
+pub(crate) fn made(
+    alloc: Global,
+    answer: Result<Table, dataset_types::TableFault>,
+) -> Result<ArcOf<Table>, EvalFault> {
+    match answer {
+        Ok(table) => Ok(ArcOf::new(alloc, table)?),
+        Err(_) => Err(EvalFault::NoMemory),
+    }
 }
 
 // Both rows are sure.
-fn prices(rt: &impl Abort, alloc: Global) -> Result<Table, EvalFault> {
+fn prices(rt: &impl Abort, alloc: Global) -> Result<ArcOf<Table>, EvalFault> {
     let columns = columns(alloc)?;
     let rows = rows(alloc, true)?;
     assert!(rt; names_distinct(columns.as_slice()));
     assert!(rt; rows_fit(columns.as_slice(), rows.as_slice()));
     assert!(rt; all_sure(rows.as_slice()));
-    made(Table::new(alloc, columns, rows, false, false))
+    made(alloc, Table::new(alloc, columns, rows, false, false))
 }
 
 // The second row is unsure.
-fn surplus(rt: &impl Abort, alloc: Global) -> Result<Table, EvalFault> {
+fn surplus(rt: &impl Abort, alloc: Global) -> Result<ArcOf<Table>, EvalFault> {
     let columns = columns(alloc)?;
     let rows = rows(alloc, false)?;
     assert!(rt; names_distinct(columns.as_slice()));
     assert!(rt; rows_fit(columns.as_slice(), rows.as_slice()));
-    made(Table::new(alloc, columns, rows, true, false))
+    made(alloc, Table::new(alloc, columns, rows, true, false))
 }
 
 fn push_row(alloc: Global, out: &mut Words, row: &Row) -> Result<(), NoMemory> {
@@ -145,24 +155,29 @@ fn name_of(fault: EvalFault) -> &'static str {
     }
 }
 
-fn line_of(alloc: Global, answer: &Result<Table, EvalFault>) -> Result<Words, NoMemory> {
+fn line_of(alloc: Global, answer: &Result<ArcOf<Table>, EvalFault>) -> Result<Words, NoMemory> {
     let mut out = Words::new(alloc)?;
     match answer {
-        Ok(table) => push_table(alloc, &mut out, table)?,
+        Ok(table) => push_table(alloc, &mut out, table.get())?,
         Err(fault) => out.push_text(alloc, name_of(*fault))?,
     }
     Ok(out)
 }
 
-fn gives(alloc: Global, answer: &Result<Table, EvalFault>, want: &str) -> bool {
+pub(crate) fn gives(alloc: Global, answer: &Result<ArcOf<Table>, EvalFault>, want: &str) -> bool {
     match line_of(alloc, answer) {
         Ok(line) => line.as_text() == want,
         Err(_) => false,
     }
 }
 
-fn inserted(alloc: Global, table: &Table, row: &str, after: &str) -> Result<Table, EvalFault> {
-    insert_row(alloc, table, &named(row)?, &place(alloc, after)?)
+pub(crate) fn inserted(
+    alloc: Global,
+    table: &ArcOf<Table>,
+    row: &str,
+    after: &str,
+) -> Result<ArcOf<Table>, EvalFault> {
+    insert_row(alloc, table.get(), &named(row)?, &place(alloc, after)?)
 }
 
 #[test]
@@ -177,6 +192,7 @@ fn a_new_row_comes_first_or_after_a_row(rt: HostRuntime) -> Result<(), Fail> {
         (&sure, "z", "#2", "#1 1 2.5000; #2 2 ~null; @z null null; "),
         (&sure, "z", "#3", "NoRow"),
         (&sure, "z", "1", "NoRow"),
+        (&sure, "z", "@z", "NoRow"),
         (
             &with_z,
             "y",
@@ -184,6 +200,7 @@ fn a_new_row_comes_first_or_after_a_row(rt: HostRuntime) -> Result<(), Fail> {
             "#1 1 2.5000; @z null null; @y null null; #2 2 ~null; ",
         ),
         (&with_z, "z", "", "RowTaken"),
+        (&with_z, "z", "@z", "RowTaken"),
         (&with_z, "z", "@y", "NoRow"),
         (
             &open,
@@ -207,16 +224,25 @@ fn a_new_row_comes_first_or_after_a_row(rt: HostRuntime) -> Result<(), Fail> {
     Ok(())
 }
 
-fn deleted(alloc: Global, table: &Table, row: &str) -> Result<Table, EvalFault> {
-    delete_row(alloc, table, &words(alloc, row)?)
+pub(crate) fn deleted(
+    alloc: Global,
+    table: &ArcOf<Table>,
+    row: &str,
+) -> Result<ArcOf<Table>, EvalFault> {
+    delete_row(alloc, table.get(), &words(alloc, row)?)
 }
 
-fn moved(alloc: Global, table: &Table, row: &str, after: &str) -> Result<Table, EvalFault> {
+fn moved(
+    alloc: Global,
+    table: &ArcOf<Table>,
+    row: &str,
+    after: &str,
+) -> Result<ArcOf<Table>, EvalFault> {
     move_row(alloc, table, &words(alloc, row)?, &place(alloc, after)?)
 }
 
 #[test]
-fn a_row_is_moved_or_taken_out(rt: HostRuntime) -> Result<(), Fail> {
+fn a_row_is_moved(rt: HostRuntime) -> Result<(), Fail> {
     let alloc = rt.alloc();
     let sure = prices(&rt, alloc).expect(&rt, "memory");
     let open = surplus(&rt, alloc).expect(&rt, "memory");
@@ -225,7 +251,12 @@ fn a_row_is_moved_or_taken_out(rt: HostRuntime) -> Result<(), Fail> {
         (&sure, "#2", "", "#2 2 ~null; #1 1 2.5000; "),
         (&sure, "#1", "#2", "#2 2 ~null; #1 1 2.5000; "),
         (&sure, "#1", "#1", "#1 1 2.5000; #2 2 ~null; "),
+        (&sure, "#1", "", "#1 1 2.5000; #2 2 ~null; "),
+        (&sure, "#2", "#1", "#1 1 2.5000; #2 2 ~null; "),
+        (&sure, "#2", "#2", "#1 1 2.5000; #2 2 ~null; "),
         (&sure, "#3", "", "NoRow"),
+        (&sure, "#3", "#2", "NoRow"),
+        (&sure, "#3", "#3", "NoRow"),
         (&sure, "#1", "#3", "NoRow"),
         (&open, "#2", "#1", "#1 1 2.5000; ?#2 2 ~null; open "),
         (&open, "#2", "#2", "#1 1 2.5000; ?#2 2 ~null; open "),
@@ -238,20 +269,62 @@ fn a_row_is_moved_or_taken_out(rt: HostRuntime) -> Result<(), Fail> {
         );
     }
     assert!(rt; gives(alloc, &Ok(loose), "?#2 2 ~null; #1 1 2.5000; open loose "));
+    Ok(())
+}
+
+// The unsure row comes first, and a sure one after it; their order is certain.
+fn unsure_first(rt: &impl Abort, alloc: Global) -> Result<ArcOf<Table>, EvalFault> {
+    moved(alloc, &surplus(rt, alloc)?, "#2", "")
+}
+
+#[test]
+fn a_row_that_already_follows_an_unsure_one_is_loose_once_it_is_put_there(
+    rt: HostRuntime,
+) -> Result<(), Fail> {
+    let alloc = rt.alloc();
+    let table = unsure_first(&rt, alloc).expect(&rt, "memory");
+    let loose = moved(alloc, &table, "#1", "#2").expect(&rt, "memory");
+    let cases = [
+        (&table, "#2", "", "?#2 2 ~null; #1 1 2.5000; open "),
+        (&table, "#1", "#1", "?#2 2 ~null; #1 1 2.5000; open "),
+        (&table, "#1", "#2", "?#2 2 ~null; #1 1 2.5000; open loose "),
+        (&loose, "#1", "#2", "?#2 2 ~null; #1 1 2.5000; open loose "),
+    ];
+    for (table, row, after, want) in cases {
+        assert!(rt;
+            gives(alloc, &moved(alloc, table, row, after), want),
+            "{row} after {after}"
+        );
+    }
+    Ok(())
+}
+
+#[test]
+fn a_row_is_taken_out(rt: HostRuntime) -> Result<(), Fail> {
+    let alloc = rt.alloc();
+    let sure = prices(&rt, alloc).expect(&rt, "memory");
+    let open = surplus(&rt, alloc).expect(&rt, "memory");
     assert!(rt; gives(alloc, &deleted(alloc, &sure, "#1"), "#2 2 ~null; "));
+    assert!(rt; gives(alloc, &deleted(alloc, &sure, "#2"), "#1 1 2.5000; "));
     assert!(rt; gives(alloc, &deleted(alloc, &open, "#2"), "#1 1 2.5000; open "));
     assert!(rt; gives(alloc, &deleted(alloc, &sure, "#3"), "NoRow"));
     Ok(())
 }
 
-fn set(
+pub(crate) fn set(
     alloc: Global,
-    table: &Table,
+    table: &ArcOf<Table>,
     row: &str,
     column: &str,
     value: &Value,
-) -> Result<Table, EvalFault> {
-    set_value(alloc, table, &words(alloc, row)?, &named(column)?, value)
+) -> Result<ArcOf<Table>, EvalFault> {
+    set_value(
+        alloc,
+        table.get(),
+        &words(alloc, row)?,
+        &named(column)?,
+        value,
+    )
 }
 
 #[test]
@@ -271,6 +344,8 @@ fn a_value_is_set_without_a_mark(rt: HostRuntime) -> Result<(), Fail> {
         ),
         ("#2", "price", &Value::Int(922_337_203_685_478), "Overflow"),
         ("#1", "n", &three, "#1 3 2.5000; #2 2 ~null; "),
+        ("#1", "price", &three, "#1 1 3.0000; #2 2 ~null; "),
+        ("#2", "n", &three, "#1 1 2.5000; #2 3 ~null; "),
         ("#1", "n", &text, "TypeFault"),
         ("#3", "n", &text, "NoRow"),
         ("#3", "m", &text, "NoColumn"),
@@ -284,12 +359,12 @@ fn a_value_is_set_without_a_mark(rt: HostRuntime) -> Result<(), Fail> {
     Ok(())
 }
 
-fn sorted(alloc: Global, table: &Table, column: &str) -> Result<Table, EvalFault> {
+fn sorted(alloc: Global, table: &ArcOf<Table>, column: &str) -> Result<ArcOf<Table>, EvalFault> {
     let mut by = SortNames::new(alloc)?;
     let name = named(column)?;
     let descending = true;
     by.push(alloc, SortName { name, descending })?;
-    sort(alloc, table, &by)
+    sort(alloc, table.get(), &by)
 }
 
 #[test]
@@ -309,46 +384,5 @@ fn rows_are_sorted_by_named_columns(rt: HostRuntime) -> Result<(), Fail> {
             "{column}"
         );
     }
-    Ok(())
-}
-
-// The id of a row that was joined with a group's.
-fn pair(alloc: Global) -> Result<RowId, NoMemory> {
-    let mut key = Values::new(alloc)?;
-    key.push(alloc, Value::Text(words(alloc, "k")?))?;
-    let left = Boxed::new(alloc, RowId::Rec(1))?;
-    let right = Boxed::new(alloc, RowId::Key(key))?;
-    Ok(RowId::Pair(left, right))
-}
-
-fn joined(rt: &impl Abort, alloc: Global) -> Result<Table, EvalFault> {
-    let row = Row {
-        id: pair(alloc)?,
-        sure: true,
-        values: values(alloc, 1, Value::Null, false)?,
-    };
-    let columns = columns(alloc)?;
-    let rows = one_row(alloc, row)?;
-    assert!(rt; names_distinct(columns.as_slice()));
-    assert!(rt; rows_fit(columns.as_slice(), rows.as_slice()));
-    assert!(rt; all_sure(rows.as_slice()));
-    made(Table::new(alloc, columns, rows, false, false))
-}
-
-#[tactic(auto, using(crate::proofs::Ids::one_id))]
-fn one_row(alloc: Global, row: Row) -> Result<Rows, NoMemory>
-    ensures { IfOk result (λ rows. Distinct (row_ids rows)) }
-{
-    let mut rows = Rows::new(alloc)?;
-    rows.push(alloc, row)?;
-    Ok(rows)
-}
-
-#[test]
-fn ids_of_every_kind_are_found_by_their_texts(rt: HostRuntime) -> Result<(), Fail> {
-    let alloc = rt.alloc();
-    let table = joined(&rt, alloc).expect(&rt, "memory");
-    assert!(rt; gives(alloc, &deleted(alloc, &table, "(#1,[\"k\"])"), ""));
-    assert!(rt; gives(alloc, &deleted(alloc, &table, "(#1,[k])"), "NoRow"));
     Ok(())
 }

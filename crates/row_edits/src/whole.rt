@@ -6,20 +6,21 @@ ghost use Rattle.row_edits.specs.Tables.{KeepsRules, limited};
 use cell_errors::{CellError, EvalFault};
 use dataset_types::{Columns, Rows, Table, TableFault};
 use std::alloc::Global;
+use value_types::ArcOf;
 
-/// The dataset of these parts, where it is within the limits.
+/// The dataset of these parts, to be shared, where it is within the limits.
 pub(crate) fn limited(
     alloc: Global,
     columns: Columns,
     rows: Rows,
     is_open: bool,
     is_loose: bool,
-) -> Result<Table, EvalFault>
+) -> Result<ArcOf<Table>, EvalFault>
     requires { KeepsRules (table_of columns rows is_open is_loose) }
     ensures { Gives result (limited (table_of columns rows is_open is_loose)) }
 {
     match Table::new(alloc, columns, rows, is_open, is_loose) {
-        Ok(table) => Ok(table),
+        Ok(table) => Ok(ArcOf::new(alloc, table)?),
         Err(TableFault::TooLarge) => Err(EvalFault::Error(CellError::TooLarge)),
         Err(TableFault::NoMemory) => Err(EvalFault::NoMemory),
     }

@@ -1,5 +1,6 @@
 -- What a spreadsheet command gives in an environment, and which names it reads there.
-use Rattle.std.specs.Prelude.{ℕ, not, ◌&&◌, Bool, if◌then◌else◌, is_some, Option, Some, None, Ok, Err, List, [], ◌∷◌}
+use Rattle.std.specs.Prelude.{ℕ, not, ◌&&◌, Bool, if◌then◌else◌, is_some, Option, Some, None, Ok, Err}
+use Rattle.std.specs.Prelude.{List, [], ◌∷◌}
 use Rattle.std.specs.Str.{bytes_eq}
 use Rattle.cell_errors.specs.Answers.{Answer, and_then}
 use Rattle.cell_errors.specs.declared.fault.CellError.TheVariants as error
@@ -46,29 +47,57 @@ there slot = and_then (found slot.table) (λ t. Ok (record { table = t; doubt = 
 -- the dataset of a name, changed; it is as doubtful as it was
 abbrev pub edited : List ℕ → (TableData → Answer TableData) → (List ℕ → Slot) → Answer (List Named)
 edited name change look =
-    and_then (there (look name)) (λ s. and_then (change s.table) (λ t. Ok (filled name t s.doubt ∷ [])))
+    and_then (there (look name)) (λ s.
+    and_then (change s.table) (λ t. Ok (filled name t s.doubt ∷ [])))
 
 -- the dataset of a name, where another name has none
 abbrev pub there_alone : List ℕ → List ℕ → (List ℕ → Slot) → Answer There
 there_alone name to look =
-    and_then (there (look name)) (λ s. if is_some (look to).table then Err error.NameTaken else Ok s)
+    and_then (there (look name)) (λ s.
+    if is_some (look to).table then Err error.NameTaken else Ok s)
+
+-- the dataset that a command is on
+abbrev pub dataset_of : Command → List ℕ
+dataset_of (command.InsertColumn d name k at) = d
+dataset_of (command.DeleteColumn d name) = d
+dataset_of (command.RenameColumn d name to) = d
+dataset_of (command.MoveColumn d name at) = d
+dataset_of (command.KeepColumns d names) = d
+dataset_of (command.InsertRow d row after) = d
+dataset_of (command.DeleteRow d row) = d
+dataset_of (command.MoveRow d row after) = d
+dataset_of (command.SetValue d row column v) = d
+dataset_of (command.Formula d column words) = d
+dataset_of (command.Sort d by) = d
+dataset_of (command.RenameDataset d to) = d
+dataset_of (command.CopyDataset d to) = d
+dataset_of (command.DropDataset d) = d
+
+-- what a command on columns or rows makes of its dataset; any other leaves it as it is
+abbrev pub table_edit : Command → TableData → Answer TableData
+table_edit (command.InsertColumn d name k at) t = changed (insertion name k at) t
+table_edit (command.DeleteColumn d name) t = changed (deletion name) t
+table_edit (command.RenameColumn d name to) t = changed (renaming name to) t
+table_edit (command.MoveColumn d name at) t = changed (moving name at) t
+table_edit (command.KeepColumns d names) t = changed (keeping names) t
+table_edit (command.InsertRow d row after) t = row_inserted t row after
+table_edit (command.DeleteRow d row) t = row_deleted t row
+table_edit (command.MoveRow d row after) t = row_moved t row after
+table_edit (command.SetValue d row column v) t = value_set t row column v
+table_edit (command.Sort d by) t = rows_sorted t by
+table_edit _ t = Ok t
 
 -- what a command of the cell with an id writes, under these picks
 abbrev pub applied : Command → ℕ → List Pick → (List ℕ → Slot) → Answer (List Named)
-applied (command.InsertColumn d name k at) cell picks look = edited d (changed (insertion name k at)) look
-applied (command.DeleteColumn d name) cell picks look = edited d (changed (deletion name)) look
-applied (command.RenameColumn d name to) cell picks look = edited d (changed (renaming name to)) look
-applied (command.MoveColumn d name at) cell picks look = edited d (changed (moving name at)) look
-applied (command.KeepColumns d names) cell picks look = edited d (changed (keeping names)) look
-applied (command.InsertRow d row after) cell picks look = edited d (λ t. row_inserted t row after) look
-applied (command.DeleteRow d row) cell picks look = edited d (λ t. row_deleted t row) look
-applied (command.MoveRow d row after) cell picks look = edited d (λ t. row_moved t row after) look
-applied (command.SetValue d row column v) cell picks look = edited d (λ t. value_set t row column v) look
-applied (command.Formula d column words) cell picks look = and_then (expr_of words) (λ e. edited d (formula column e picks cell) look)
-applied (command.Sort d by) cell picks look = edited d (λ t. rows_sorted t by) look
-applied (command.RenameDataset d to) cell picks look = and_then (there_alone d to look) (λ s. Ok (filled to s.table s.doubt ∷ gone d ∷ []))
-applied (command.CopyDataset d to) cell picks look = and_then (there_alone d to look) (λ s. Ok (filled to s.table s.doubt ∷ []))
-applied (command.DropDataset d) cell picks look = and_then (there (look d)) (λ s. Ok (gone d ∷ []))
+applied (command.Formula d column words) cell picks look =
+    and_then (expr_of words) (λ e. edited d (formula column e picks cell) look)
+applied (command.RenameDataset d to) cell picks look =
+    and_then (there_alone d to look) (λ s. Ok (filled to s.table s.doubt ∷ gone d ∷ []))
+applied (command.CopyDataset d to) cell picks look =
+    and_then (there_alone d to look) (λ s. Ok (filled to s.table s.doubt ∷ []))
+applied (command.DropDataset d) cell picks look =
+    and_then (there (look d)) (λ s. Ok (gone d ∷ []))
+applied c cell picks look = edited (dataset_of c) (table_edit c) look
 
 -- ---- the names that are read
 
@@ -79,21 +108,12 @@ if_text (Err e) name = []
 
 -- another name after the first, where that has a dataset
 abbrev pub both_names : List ℕ → List ℕ → (List ℕ → Slot) → List (List ℕ)
-both_names name to look = name ∷ (if is_some (look name).table && not (bytes_eq name to) then to ∷ [] else [])
+both_names name to look =
+    name ∷ (if is_some (look name).table && not (bytes_eq name to) then to ∷ [] else [])
 
 -- the names that a command reads, each once, in order
 abbrev pub names_read : Command → (List ℕ → Slot) → List (List ℕ)
-names_read (command.InsertColumn d name k at) look = d ∷ []
-names_read (command.DeleteColumn d name) look = d ∷ []
-names_read (command.RenameColumn d name to) look = d ∷ []
-names_read (command.MoveColumn d name at) look = d ∷ []
-names_read (command.KeepColumns d names) look = d ∷ []
-names_read (command.InsertRow d row after) look = d ∷ []
-names_read (command.DeleteRow d row) look = d ∷ []
-names_read (command.MoveRow d row after) look = d ∷ []
-names_read (command.SetValue d row column v) look = d ∷ []
 names_read (command.Formula d column words) look = if_text (expr_of words) d
-names_read (command.Sort d by) look = d ∷ []
 names_read (command.RenameDataset d to) look = both_names d to look
 names_read (command.CopyDataset d to) look = both_names d to look
-names_read (command.DropDataset d) look = d ∷ []
+names_read c look = dataset_of c ∷ []

@@ -33,5 +33,7 @@ ShowTheSame look other = (name : List ℕ) → shown_slot (look name) ≡ shown_
 -- in environments that show the same, the writes show the same, whatever the picks
 abbrev pub KeepsShown : Command → ℕ → List Pick → List Pick → Type 0
 KeepsShown c cell picks others =
-    (look other : List ℕ → Slot) (a b : List Named) → AreTables look → AreTables other → ShowTheSame look other →
-    applied c cell picks look ≡ Ok a → applied c cell others other ≡ Ok b → map shown_write a ≡ map shown_write b
+    (look other : List ℕ → Slot) (a b : List Named) →
+    AreTables look → AreTables other → ShowTheSame look other →
+    applied c cell picks look ≡ Ok a → applied c cell others other ≡ Ok b →
+    map shown_write a ≡ map shown_write b

@@ -3,5 +3,3 @@ pub mod Commands
 pub mod Plain
 -- what holds of commands
 pub mod Laws
--- what the functions inside the crate promise each other
-pub mod Calls

@@ -2,7 +2,7 @@
 ghost use Rattle.std.specs.Prelude.{◌≡◌, [], ◌∷◌, None, IfOk};
 ghost use Rattle.cell_errors.specs.Answers.{Gives};
 ghost use Rattle.cell_model.specs.Works.{Works, KeepsSource};
-ghost use Rattle.vizual_edits.specs.Calls as spec;
+ghost use Rattle.vizual_edits.specs.Commands as spec;
 ghost use Rattle.vizual_edits.specs.Commands.{filled, edited};
 
 use crate::reading::read_there;
@@ -25,7 +25,7 @@ pub(crate) trait Edit {
 
     ghost gives: { Self → TableData → Answer TableData };
 
-    fn run(&self, alloc: Global, table: &Table) -> Result<Table, EvalFault>
+    fn run(&self, alloc: Global, table: &ArcOf<Table>) -> Result<ArcOf<Table>, EvalFault>
         ensures { Gives result (gives self.now table.now) };
 }
 
@@ -36,11 +36,11 @@ pub(crate) struct ByCommand<'a> {
 }
 
 impl<'a> Edit for ByCommand<'a> {
-    ghost use Rattle.vizual_edits.specs.Calls.{table_edit};
+    ghost use Rattle.vizual_edits.specs.Commands.{table_edit};
 
     ghost gives = { λ e t. table_edit e.command.now t };
 
-    fn run(&self, alloc: Global, table: &Table) -> Result<Table, EvalFault> {
+    fn run(&self, alloc: Global, table: &ArcOf<Table>) -> Result<ArcOf<Table>, EvalFault> {
         table_edit(alloc, self.command, table)
     }
 }
@@ -59,32 +59,42 @@ impl<'a> Edit for ByFormula<'a> {
 
     ghost gives = { λ e t. formula e.column.now e.expr.now e.picks.now e.cell t };
 
-    fn run(&self, alloc: Global, table: &Table) -> Result<Table, EvalFault> {
-        formula(alloc, table, self.column, self.expr, self.picks, self.cell)
+    fn run(&self, alloc: Global, table: &ArcOf<Table>) -> Result<ArcOf<Table>, EvalFault> {
+        formula(
+            alloc,
+            table.get(),
+            self.column,
+            self.expr,
+            self.picks,
+            self.cell,
+        )
     }
 }
 
-fn table_edit(alloc: Global, command: &Command, table: &Table) -> Result<Table, EvalFault>
+fn table_edit(
+    alloc: Global,
+    command: &Command,
+    table: &ArcOf<Table>,
+) -> Result<ArcOf<Table>, EvalFault>
     ensures { Gives result (spec.table_edit command.now table.now) }
 {
+    let own = table.get();
     match command {
-        Command::InsertColumn { name, kind, at, .. } => {
-            insert_column(alloc, table, name, *kind, *at)
-        }
-        Command::DeleteColumn { name, .. } => delete_column(alloc, table, name),
+        Command::InsertColumn { name, kind, at, .. } => insert_column(alloc, own, name, *kind, *at),
+        Command::DeleteColumn { name, .. } => delete_column(alloc, own, name),
         Command::RenameColumn { name, to, .. } => rename_column(alloc, table, name, to),
         Command::MoveColumn { name, at, .. } => move_column(alloc, table, name, *at),
         Command::KeepColumns { names, .. } => keep_columns(alloc, table, names.as_names()),
-        Command::InsertRow { row, after, .. } => insert_row(alloc, table, row, after),
-        Command::DeleteRow { row, .. } => delete_row(alloc, table, row),
+        Command::InsertRow { row, after, .. } => insert_row(alloc, own, row, after),
+        Command::DeleteRow { row, .. } => delete_row(alloc, own, row),
         Command::MoveRow { row, after, .. } => move_row(alloc, table, row, after),
         Command::SetValue {
             row,
             column,
             value,
             ..
-        } => set_value(alloc, table, row, column, value),
-        Command::Sort { by, .. } => sort(alloc, table, by),
+        } => set_value(alloc, own, row, column, value),
+        Command::Sort { by, .. } => sort(alloc, own, by),
         Command::Formula { .. }
         | Command::RenameDataset { .. }
         | Command::CopyDataset { .. }
@@ -124,6 +134,6 @@ pub(crate) fn edit_dataset<R: Reads, E: Edit>(
     ensures source { KeepsSource (R.source reads.old) (R.source reads.new) (R.asked reads.new) }
 {
     let there = read_there(alloc, name, reads)?;
-    let table = edit.run(alloc, there.table.get())?;
-    Ok(fill(alloc, name, ArcOf::new(alloc, table)?, there.doubt)?)
+    let table = edit.run(alloc, &there.table)?;
+    Ok(fill(alloc, name, table, there.doubt)?)
 }

@@ -11,6 +11,8 @@ mod reading;
 mod renaming;
 #[cfg(test)]
 mod tests;
+#[cfg(test)]
+mod tests_doubt;
 
 pub use applying::apply;
 pub use laws::law_of_commands;

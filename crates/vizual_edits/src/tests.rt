@@ -9,11 +9,11 @@ use std::alloc::Global;
 use std::test::*;
 use value_types::{ArcOf, ColumnType, Name, NoMemory, Words, read_name};
 
-fn named(text: &str) -> Result<Name, NoMemory> {
+pub(crate) fn named(text: &str) -> Result<Name, NoMemory> {
     read_name(text.as_bytes()).ok_or(NoMemory)
 }
 
-fn words(alloc: Global, text: &str) -> Result<Words, NoMemory> {
+pub(crate) fn words(alloc: Global, text: &str) -> Result<Words, NoMemory> {
     let mut all = Words::new(alloc)?;
     all.push_text(alloc, text)?;
     Ok(all)
@@ -27,7 +27,7 @@ fn table(alloc: Global) -> Result<ArcOf<Table>, NoMemory> {
     }
 }
 
-fn env(alloc: Global) -> Result<Env, NoMemory> {
+pub(crate) fn env(alloc: Global) -> Result<Env, NoMemory> {
     let mut env = Env::new(alloc)?;
     for (name, doubt) in [("t", false), ("u", true)] {
         let slot = Slot {
@@ -98,19 +98,19 @@ fn gives(alloc: Global, command: Result<Command, NoMemory>, want: &str) -> bool 
     }
 }
 
-fn rename(dataset: &str, to: &str) -> Result<Command, NoMemory> {
+pub(crate) fn rename(dataset: &str, to: &str) -> Result<Command, NoMemory> {
     let dataset = named(dataset)?;
     let to = named(to)?;
     Ok(Command::RenameDataset { dataset, to })
 }
 
-fn copy(dataset: &str, to: &str) -> Result<Command, NoMemory> {
+pub(crate) fn copy(dataset: &str, to: &str) -> Result<Command, NoMemory> {
     let dataset = named(dataset)?;
     let to = named(to)?;
     Ok(Command::CopyDataset { dataset, to })
 }
 
-fn drop(dataset: &str) -> Result<Command, NoMemory> {
+pub(crate) fn drop(dataset: &str) -> Result<Command, NoMemory> {
     let dataset = named(dataset)?;
     Ok(Command::DropDataset { dataset })
 }

@@ -1,7 +1,8 @@
-use Rattle.row_edits.proofs.MoveLaws.{move_rules}
+use Rattle.row_edits.proofs.Staying.{row_stays}
 use Rattle.row_edits.proofs.moving.move_row.Goals as goal
 
-pub limited-requires : goal.limited-requires
-limited-requires c =
-    rw (c.in_ok-copy.ensures, c.columns.ensures, c.is_open.ensures)
-    (move_rules c.args.table.now c.args.row.now c.args.after.now c.in_ok-rows.rows _ c.law_of_rules.ensures (rw c.rows.ensures at c.in_ok-rows.ensures))
+pub returns-then-branch : goal.returns-then-branch
+returns-then-branch c =
+    let holds = rw (c.in_ok-stays.ensures, c.get-own.ensures) at c.if-branch.true in
+    rw c.in_ok-copy.ensures
+    (row_stays c.args.table.now c.args.row.now c.args.after.now (rw c.get-own.ensures at c.law_of_rules.ensures) holds)

@@ -1,0 +1,117 @@
+-- A move that leaves the rows and the flags as they are.
+use Rattle.std.proofs.Common.{◌≡◌, ℕ, suc, Bool, true, false, not, ◌&&◌, ◌||◌, Ok, Err, List, [], ◌∷◌, ◌++◌, length, cond, refl, ap, ◌∙◌, arith}
+use Rattle.std.specs.Prelude.{if◌then◌else◌, ◌==◌, Option, Some, None}
+use Rattle.std.proofs.lemmas.Bool.Decides.{Decides-eqb}
+use Rattle.value_types.specs.declared.row_id.RowId.{RowId}
+use Rattle.cell_errors.specs.Answers.{Answer, and_then}
+use Rattle.cell_errors.specs.declared.fault.CellError.TheVariants as error
+use Rattle.dataset_types.specs.declared.row.Row.{Row}
+use Rattle.dataset_types.specs.Tables.{TableData, IsTable, table_of, within_limits}
+use Rattle.row_edits.specs.ByText.{is_text, put_in, only, without, is_there, is_place, up_to, place_of, after}
+use Rattle.row_edits.specs.Rows.{is_itself, put, moved, is_in_place}
+use Rattle.row_edits.specs.Move.{follows_unsure, row_moved, stays}
+use Rattle.row_edits.specs.Tables.{limited, row_id}
+
+empty : {X : Type 0} (xs : List X) → length xs ≡ 0 → xs ≡ []
+empty [] e = refl
+empty (x ∷ xs) e = absurd (omega (arith, e))
+
+-- ---- a row put where it is
+
+module _ {R : Type 0} (id_of : R → RowId) where
+  -- where no row has a text, all are without it
+  none_out : (text : List ℕ) (rows : List R) → length (only id_of text rows) ≡ 0 → without id_of text rows ≡ rows
+  none_out text [] e = refl
+  none_out text (r ∷ rs) e = on (is_text text (id_of r)) e (λ h. none_out text rs h)
+    where
+      on : (b : Bool) → length (cond b (r ∷ only id_of text rs) (only id_of text rs)) ≡ 0 → (length (only id_of text rs) ≡ 0 → without id_of text rs ≡ rs) →
+          cond (not b) (r ∷ without id_of text rs) (without id_of text rs) ≡ r ∷ rs
+      on true h rest = absurd (omega (arith, h))
+      on false h rest = ap (λ z. r ∷ z) (rest h)
+
+  none_up_to : (text : List ℕ) (rows : List R) → up_to id_of text rows ≡ 0 → length (only id_of text rows) ≡ 0
+  none_up_to text [] e = refl
+  none_up_to text (r ∷ rs) e = on (is_text text (id_of r)) e
+    where
+      on : (b : Bool) → (if b then 1 else suc (up_to id_of text rs)) ≡ 0 → length (cond b (r ∷ only id_of text rs) (only id_of text rs)) ≡ 0
+      on true h = absurd (omega (arith, h))
+      on false h = absurd (omega (arith, h))
+
+  -- the first row, put first
+  first_stays : (row : List ℕ) (rows : List R) → up_to id_of row rows ≡ 1 → length (only id_of row rows) ≡ 1 → only id_of row rows ++ without id_of row rows ≡ rows
+  first_stays row [] e n = refl
+  first_stays row (r ∷ rs) e n = on (is_text row (id_of r)) e n
+    where
+      on : (b : Bool) → (if b then 1 else suc (up_to id_of row rs)) ≡ 1 → length (cond b (r ∷ only id_of row rs) (only id_of row rs)) ≡ 1 →
+          cond b (r ∷ only id_of row rs) (only id_of row rs) ++ cond (not b) (r ∷ without id_of row rs) (without id_of row rs) ≡ r ∷ rs
+      on true h k =
+          let no : length (only id_of row rs) ≡ 0 = omega (arith, k) in
+          let only_is = empty (only id_of row rs) no in
+          let rest_is = none_out row rs no in
+          λ i. r ∷ (only_is i ++ rest_is i)
+      on false h k = absurd (omega (arith, k, none_up_to row rs (omega (arith, h))))
+
+  -- the next row, put after the one before it
+  next_stays : (row text : List ℕ) (rows : List R) → up_to id_of row rows ≡ suc (up_to id_of text rows) → length (only id_of row rows) ≡ 1 →
+      put_in (up_to id_of text (without id_of row rows)) (only id_of row rows) (without id_of row rows) ≡ rows
+  next_stays row text [] e n = absurd (omega (arith, e))
+  next_stays row text (r ∷ rs) e n =
+      on (is_text row (id_of r)) (is_text text (id_of r)) refl e n (λ h k. first_stays row rs h k) (λ h k. next_stays row text rs h k)
+    where
+      on : (b c : Bool) → is_text text (id_of r) ≡ c → (if b then 1 else suc (up_to id_of row rs)) ≡ suc (if c then 1 else suc (up_to id_of text rs)) →
+          length (cond b (r ∷ only id_of row rs) (only id_of row rs)) ≡ 1 →
+          (up_to id_of row rs ≡ 1 → length (only id_of row rs) ≡ 1 → only id_of row rs ++ without id_of row rs ≡ rs) →
+          (up_to id_of row rs ≡ suc (up_to id_of text rs) → length (only id_of row rs) ≡ 1 →
+          put_in (up_to id_of text (without id_of row rs)) (only id_of row rs) (without id_of row rs) ≡ rs) →
+          put_in (up_to id_of text (cond (not b) (r ∷ without id_of row rs) (without id_of row rs)))
+          (cond b (r ∷ only id_of row rs) (only id_of row rs)) (cond (not b) (r ∷ without id_of row rs) (without id_of row rs)) ≡ r ∷ rs
+      on true true is h k first next = absurd (omega (arith, h))
+      on true false is h k first next = absurd (omega (arith, h))
+      on false true is h k first next = rw is (ap (λ z. r ∷ z) (first (omega (arith, h)) k))
+      on false false is h k first next = rw is (ap (λ z. r ∷ z) (next (omega (arith, h)) k))
+
+  put_stays : (row : List ℕ) (place : Option (List ℕ)) (rows : List R) → is_in_place id_of row place rows ≡ true → is_there id_of row rows ≡ true →
+      put id_of row place rows ≡ rows
+  put_stays row place rows e there = on (is_itself row place) e
+    where
+      one : length (only id_of row rows) ≡ 1
+      one = (Decides-eqb (length (only id_of row rows)) 1).0 there
+
+      at : (p : Option (List ℕ)) → up_to id_of row rows ≡ suc (place_of id_of p rows) → after id_of p (only id_of row rows) (without id_of row rows) ≡ rows
+      at None h = first_stays row rows h one
+      at (Some text) h = next_stays row text rows h one
+
+      on : (b : Bool) → (b || (up_to id_of row rows == suc (place_of id_of place rows))) ≡ true →
+          (if b then rows else after id_of place (only id_of row rows) (without id_of row rows)) ≡ rows
+      on true h = refl
+      on false h = at place ((Decides-eqb (up_to id_of row rows) (suc (place_of id_of place rows))).0 h)
+
+-- ---- a dataset that stays
+
+both : (a b : Bool) → (a && b) ≡ true → (a ≡ true) × (b ≡ true)
+both true b e = (refl, e)
+both false b e = cc
+
+pub row_stays : (t : TableData) (row : List ℕ) (place : Option (List ℕ)) → IsTable t → stays t row place ≡ true → row_moved t row place ≡ Ok t
+row_stays t row place is e =
+    let unsure = follows_unsure row place t.rows in
+    let p = both (is_in_place row_id row place t.rows) _ e in
+    let q = both (is_there row_id row t.rows) _ p.1 in
+    let s = both (is_place row_id place t.rows) _ q.1 in
+    let rows = put_stays row_id row place t.rows p.0 q.0 in
+    ap (λ a. and_then a (λ rs. limited (table_of t.columns rs t.is_open (t.is_loose || unsure)))) (found (is_there row_id row t.rows) (is_place row_id place t.rows) q.0 s.0)
+    ∙ (ap limited (λ i. table_of t.columns (rows i) t.is_open (loose t.is_loose unsure s.1 i)) ∙ within (within_limits t) is.limits)
+  where
+    found : (a b : Bool) → a ≡ true → b ≡ true → (if a && b then Ok (put row_id row place t.rows) else Err error.NoRow) ≡ Ok (put row_id row place t.rows)
+    found true true h k = refl
+    found true false h k = cc
+    found false b h k = cc
+
+    loose : (l u : Bool) → (l || not u) ≡ true → (l || u) ≡ l
+    loose true u h = refl
+    loose false true h = cc
+    loose false false h = refl
+
+    within : (b : Bool) → b ≡ true → (if b then Ok t else Err error.TooLarge) ≡ Ok t
+    within true h = refl
+    within false h = cc
