@@ -2,5 +2,4 @@ pub mod EnvLemmas
 pub mod TableLemmas
 pub mod RuleLemmas
 pub mod PlainLemmas
-pub mod PickLemmas
 mod Examples

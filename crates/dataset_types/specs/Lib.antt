@@ -3,7 +3,6 @@ pub mod Tables
 pub mod Slots
 pub mod Envs
 pub mod Picks
-pub mod LatestPicks
 -- values as those of a type
 pub mod Fitting
 -- tables and environments without marks

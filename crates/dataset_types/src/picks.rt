@@ -1,15 +1,14 @@
 //! Picks: other choices at caveated places.
 ghost use Rattle.std.specs.Prelude.{◌≡◌, ◌++◌, ◌∷◌, [], Ok, IfOk, OnOk, OnErr};
 ghost use Rattle.std.specs.Option.{option_copied};
-ghost use Rattle.dataset_types.specs.Picks.{choice_of, pick_of};
+ghost use Rattle.dataset_types.specs.Picks.{same_site, choice_of, pick_of};
 
 use std::alloc::Global;
-use std::collections::BTreeMap;
 use std::marker::Model;
-use value_types::{NoMemory, Value};
+use value_types::{Copied, ListOf, NoMemory, Value};
 
 /// A caveated place of a cell. All numbers count from 1.
-#[derive(Clone, Copy, Debug, PartialEq, Eq, PartialOrd, Ord)]
+#[derive(Clone, Copy, Debug, PartialEq, Eq)]
 pub enum Site {
     /// A repaired field of a load: its record and its column.
     Field { number: u32, column: u32 },
@@ -36,31 +35,36 @@ pub struct Pick {
     pub choice: Choice,
 }
 
-/// A site of a cell.
-#[derive(Clone, Copy, PartialEq, Eq, PartialOrd, Ord)]
-struct CellSite {
-    cell: u32,
-    site: Site,
-}
-
 /// A list of picks, of which the last for a site counts.
 #[derive(Drop)]
 pub struct Picks {
-    items: Vec<Pick>,
-    // Where in `items` the last pick for a site of a cell stands.
-    latest: BTreeMap<CellSite, usize>,
+    items: ListOf<Pick>,
 }
 
 impl Model for Picks {
     ghost use Rattle.std.specs.Prelude.{List};
     ghost use Rattle.dataset_types.specs.declared.picks.Pick.{Pick};
-    ghost use Rattle.dataset_types.specs.LatestPicks.{IsIndexed};
 
     ghost Value = { List Pick };
 
-    ghost view = { λ p. p.items.items };
+    ghost view = { λ p. p.items };
+}
 
-    ghost invariant = { λ p. IsIndexed p.items.items p.latest };
+fn same_site(a: &Site, b: &Site) -> bool
+    ensures { result ≡ same_site a.now b.now }
+{
+    match (a, b) {
+        (
+            Site::Field { number, column },
+            Site::Field {
+                number: n,
+                column: c,
+            },
+        ) => number == n && column == c,
+        (Site::Record { number }, Site::Record { number: n }) => number == n,
+        (Site::Call { call }, Site::Call { call: c }) => call == c,
+        _ => false,
+    }
 }
 
 impl Choice {
@@ -88,37 +92,26 @@ impl Pick {
     }
 }
 
+impl Copied for Pick {
+    fn copied(&self, alloc: Global) -> Result<Pick, NoMemory> {
+        self.copy(alloc)
+    }
+}
+
 impl Picks {
     /// No picks.
     pub fn new(alloc: Global) -> Result<Picks, NoMemory>
         ensures { result ≡ Ok [] }
     {
         Ok(Picks {
-            items: Vec::new(alloc),
-            latest: BTreeMap::new(alloc),
+            items: ListOf::new(alloc)?,
         })
-    }
-
-    fn add(&mut self, pick: Pick) -> Result<(), NoMemory>
-        ensures ok { OnOk result (self.new ≡ self.old ++ pick ∷ []) }
-        ensures err { OnErr result (self.new ≡ self.old) }
-    {
-        let of = CellSite {
-            cell: pick.cell,
-            site: pick.site,
-        };
-        // Room comes first: once the pick's position is written down, nothing may fail.
-        self.items.reserve(1)?;
-        let at = self.items.len();
-        self.latest.insert(of, at)?;
-        self.items.push_reserved(pick);
-        Ok(())
     }
 
     /// One pick more, the last.
     pub fn push(
         &mut self,
-        _alloc: Global,
+        alloc: Global,
         cell: u32,
         site: Site,
         choice: Choice,
@@ -126,25 +119,28 @@ impl Picks {
         ensures ok { OnOk result (self.new ≡ self.old ++ pick_of cell site choice ∷ []) }
         ensures err { OnErr result (self.new ≡ self.old) }
     {
-        self.add(Pick { cell, site, choice })
+        self.items.push(alloc, Pick { cell, site, choice })
     }
 
     /// What is chosen at a site of a cell: the last pick of the list counts.
     pub fn choice(&self, cell: u32, site: &Site) -> Option<&Choice>
         ensures { option_copied result ≡ choice_of self.now cell site.now }
     {
-        let at = self.latest.get(&CellSite { cell, site: *site })?;
-        Some(&self.items.get(*at)?.choice)
+        let mut found = None;
+        for pick in self.items.as_slice() {
+            if pick.cell == cell && same_site(&pick.site, site) {
+                found = Some(&pick.choice);
+            }
+        }
+        found
     }
 
     /// Equal picks.
     pub fn copy(&self, alloc: Global) -> Result<Picks, NoMemory>
         ensures { IfOk result (λ p. p ≡ self.now) }
     {
-        let mut all = Picks::new(alloc)?;
-        for pick in self.items.as_slice() {
-            all.add(pick.copy(alloc)?)?;
-        }
-        Ok(all)
+        Ok(Picks {
+            items: self.items.copy(alloc)?,
+        })
     }
 }
