@@ -1,5 +1,7 @@
 //! The commands over two rows, the second of them unsure and with a price that could not be read. Each result is shown as one
 //! line: columns, rows, then flags.
+//!
+//! What other test modules call has no contract: tests look at what they get.
 ghost use Rattle.std.specs.Prelude.{◌≡◌, IfOk};
 ghost use Rattle.dataset_types.specs.Tables.{Distinct, column_names, row_ids};
 

@@ -1,4 +1,6 @@
 //! Edits and refusals as texts that tests compare.
+//!
+//! What other test modules call has no contract: tests look at what they get.
 use crate::{Edit, EditCell, EditFault, EditKind, edit_of, line_of};
 use cell_model::{CellKind, EditRefusal};
 use dataset_types::{Repair, Row, Table};

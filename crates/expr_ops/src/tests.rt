@@ -1,5 +1,7 @@
 //! Numbers, NULL, truth and aggregates at their borders. Expected values are worked out by hand from
 //! docs/EXPRESSIONS.md.
+//!
+//! What other test modules call has no contract: tests look at what they get.
 use crate::{
     Aggregate, aggregated, binary, decides, equal, is_true, like, negated_if, null_test, unary,
 };

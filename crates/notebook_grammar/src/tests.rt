@@ -1,4 +1,6 @@
 //! Tokens, sentences and their steps. Expected places are counted by hand.
+//!
+//! What other test modules call has no contract: tests look at what they get.
 use crate::action::{Action, ExprAction};
 use crate::fault::ParseFault;
 use crate::kind::Kind;

@@ -1,4 +1,6 @@
 //! Commands on a dataset of two rows, of whose second the price couldn't be read. A result is shown as one line: rows, then flags.
+//!
+//! What other test modules call has no contract: tests look at what they get.
 ghost use Rattle.std.specs.Prelude.{IfOk};
 ghost use Rattle.dataset_types.specs.Tables.{Distinct, row_ids};
 

@@ -1,5 +1,7 @@
 //! Commands over an environment of two datasets without columns and rows: `t`, and `u` in doubt. What a command writes is shown as
 //! one line, and after it the names that it read.
+//!
+//! What other test modules call has no contract: tests look at what they get.
 use crate::apply;
 use cell_errors::CellError;
 use cell_model::{EnvReads, Reads, WorkFault, Writes};
