@@ -73,7 +73,7 @@ dataset_of (command.RenameDataset d to) = d
 dataset_of (command.CopyDataset d to) = d
 dataset_of (command.DropDataset d) = d
 
--- what a command on columns or rows makes of its dataset; any other leaves it as it is
+-- what a command on columns or rows makes of its dataset; the four with equations of their own in `applied` leave it as it is
 abbrev pub table_edit : Command → TableData → Answer TableData
 table_edit (command.InsertColumn d name k at) t = changed (insertion name k at) t
 table_edit (command.DeleteColumn d name) t = changed (deletion name) t
@@ -84,8 +84,11 @@ table_edit (command.InsertRow d row after) t = row_inserted t row after
 table_edit (command.DeleteRow d row) t = row_deleted t row
 table_edit (command.MoveRow d row after) t = row_moved t row after
 table_edit (command.SetValue d row column v) t = value_set t row column v
+table_edit (command.Formula d column words) t = Ok t
 table_edit (command.Sort d by) t = rows_sorted t by
-table_edit _ t = Ok t
+table_edit (command.RenameDataset d to) t = Ok t
+table_edit (command.CopyDataset d to) t = Ok t
+table_edit (command.DropDataset d) t = Ok t
 
 -- what a command of the cell with an id writes, under these picks
 abbrev pub applied : Command → ℕ → List Pick → (List ℕ → Slot) → Answer (List Named)

@@ -44,7 +44,7 @@ plain_alone name to env =
     and_then (found (env name)) (λ t.
     if is_some (env to) then Err error.NameTaken else Ok t)
 
--- what a command on columns or rows makes of its dataset; any other leaves it as it is
+-- what a command on columns or rows makes of its dataset; the four with equations of their own in `plain_applied` leave it as it is
 abbrev pub plain_table_edit : Command → PlainTable → Answer PlainTable
 plain_table_edit (command.InsertColumn d name k at) t = plain_changed (insertion name k at) t
 plain_table_edit (command.DeleteColumn d name) t = plain_changed (deletion name) t
@@ -55,8 +55,11 @@ plain_table_edit (command.InsertRow d row after) t = plain_row_inserted t row af
 plain_table_edit (command.DeleteRow d row) t = plain_row_deleted t row
 plain_table_edit (command.MoveRow d row after) t = plain_row_moved t row after
 plain_table_edit (command.SetValue d row column v) t = plain_value_set t row column v
+plain_table_edit (command.Formula d column words) t = Ok t
 plain_table_edit (command.Sort d by) t = plain_rows_sorted t by
-plain_table_edit _ t = Ok t
+plain_table_edit (command.RenameDataset d to) t = Ok t
+plain_table_edit (command.CopyDataset d to) t = Ok t
+plain_table_edit (command.DropDataset d) t = Ok t
 
 -- what a command of the cell with an id writes, under these picks
 abbrev pub plain_applied : Command → ℕ → List Pick → PlainEnv → Answer (List PlainNamed)
