@@ -69,7 +69,7 @@ placed_within n (c ∷ cs) =
 
 place_is : (columns : List ScopeColumn) (q : Option Name) (name : Name) (p : ℕ) → place_of columns q name ≡ Ok p → is_place columns p ≡ true
 place_is columns q name p e =
-    let h = then_ok (find_placed columns q name) (λ at. fine at.place) p e in
+    let h = then_ok (find_placed (placed columns) q name) (λ at. fine at.place) p e in
     let w = meant_has (λ at. at.column.qualifier) (λ at. at.column.column.name) (IsWithin 1 (1 + length columns)) q name (placed columns) h.0 (placed_within 1 columns) h.1 in
     let same = the_same h.0.place p h.2 in
     subst (λ z. is_place columns z ≡ true) same (tested h.0.place w.above w.below)
@@ -84,6 +84,6 @@ place_is columns q name p e =
 pub keys_are_places : (columns : List ScopeColumn) (keys : List ColumnName) (places : List ℕ) → key_places columns keys ≡ Ok places → are_places columns places ≡ true
 keys_are_places columns [] places e = ap (are_places columns) (sym (the_same [] places e))
 keys_are_places columns (k ∷ ks) places e =
-    let p = then_ok (key_place columns k) (λ y. and_then (key_places columns ks) (λ ys. fine (y ∷ ys))) places e in
+    let p = then_ok (key_place (placed columns) k) (λ y. and_then (key_places columns ks) (λ ys. fine (y ∷ ys))) places e in
     let q = then_ok (key_places columns ks) (λ ys. fine (p.0 ∷ ys)) places p.2 in
     subst (λ z. are_places columns z ≡ true) (the_same (p.0 ∷ q.0) places q.2) (rw (place_is columns k.qualifier k.name p.0 p.1) (keys_are_places columns ks q.0 q.1))

@@ -6,15 +6,19 @@ use Rattle.expr_meaning.specs.declared.bindings.ScopeColumn.{ScopeColumn}
 use Rattle.expr_meaning.specs.Types.{TypeSetting, over_columns}
 use Rattle.sql_parse.specs.declared.columns.ColumnName.{ColumnName}
 use Rattle.sql_plan.specs.declared.place.ColumnAt.{ColumnAt}
-use Rattle.sql_plan.specs.Places.{placed, place_of}
+use Rattle.sql_plan.specs.Places.{placed, place_among}
 
 -- the place of a key column
-abbrev pub key_place : List ScopeColumn → ColumnName → Answer ℕ
-key_place columns k = place_of columns k.qualifier k.name
+abbrev pub key_place : List ColumnAt → ColumnName → Answer ℕ
+key_place places k = place_among places k.qualifier k.name
 
 -- the places of the key columns, or the error of the first that isn't there
+abbrev pub keys_among : List ColumnAt → List ColumnName → Answer (List ℕ)
+keys_among places keys = collect (key_place places) keys
+
+-- those among all columns
 abbrev pub key_places : List ScopeColumn → List ColumnName → Answer (List ℕ)
-key_places columns keys = collect (key_place columns) keys
+key_places columns keys = keys_among (placed columns) keys
 
 -- whether a place is that of a key
 abbrev pub is_key : List ℕ → ℕ → Bool

@@ -15,9 +15,13 @@ abbrev pub placed : List ScopeColumn → List ColumnAt
 placed columns = placed_from 1 columns
 
 -- the column that a name stands for, with its place
-abbrev pub find_placed : List ScopeColumn → Option Name → Name → Answer ColumnAt
-find_placed columns q name = meant (λ p. p.column.qualifier) (λ p. p.column.column.name) q name (placed columns)
+abbrev pub find_placed : List ColumnAt → Option Name → Name → Answer ColumnAt
+find_placed places q name = meant (λ p. p.column.qualifier) (λ p. p.column.column.name) q name places
+
+-- its place among these
+abbrev pub place_among : List ColumnAt → Option Name → Name → Answer ℕ
+place_among places q name = and_then (find_placed places q name) (λ p. Ok p.place)
 
 -- the place of the column that a name stands for
 abbrev pub place_of : List ScopeColumn → Option Name → Name → Answer ℕ
-place_of columns q name = and_then (find_placed columns q name) (λ p. Ok p.place)
+place_of columns q name = place_among (placed columns) q name

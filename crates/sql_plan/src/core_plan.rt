@@ -68,7 +68,7 @@ fn outputs_checked(
     some_condition_checked(setting, having)?;
     let columns = outputs_of(alloc, setting, items)?;
     let names = item_names(alloc, items)?;
-    each_once(names.as_slice())?;
+    each_once(alloc, names.as_slice())?;
     Ok(columns)
 }
 
@@ -162,7 +162,7 @@ pub(crate) fn core_checked(
     ensures { Gives result (spec.core_checked headings.now core.now) }
 {
     let names = qualifiers(alloc, core)?;
-    each_once(names.as_slice())?;
+    each_once(alloc, names.as_slice())?;
     let columns = tables_checked(alloc, headings, core)?;
     where_checked(&columns, &core.condition)?;
     let keys = key_places(alloc, columns.as_slice(), core.group_by.as_slice())?;

@@ -3,7 +3,7 @@ ghost use Rattle.std.specs.Prelude.{◌≡◌, ◌++◌, IfOk, OnOk};
 ghost use Rattle.cell_errors.specs.Answers.{Gives};
 ghost use Rattle.sql_plan.specs.Groups as spec;
 
-use crate::place::{ColumnAt, place_of, placed};
+use crate::place::{ColumnAt, place_among, placed};
 use cell_errors::EvalFault;
 use expr_meaning::{Scope, ScopeColumn};
 use relations::ColumnRefs;
@@ -11,16 +11,31 @@ use sql_parse::ColumnName;
 use std::alloc::Global;
 use value_types::NoMemory;
 
-fn key_place(alloc: Global, columns: &[ScopeColumn], key: &ColumnName) -> Result<u32, EvalFault>
-    ensures { Gives result (spec.key_place columns.now key.now) }
+fn key_place(places: &[ColumnAt], key: &ColumnName) -> Result<u32, EvalFault>
+    ensures { Gives result (spec.key_place places.now key.now) }
 {
-    place_of(alloc, columns, &key.qualifier, &key.name)
+    Ok(place_among(places, &key.qualifier, &key.name)?)
+}
+
+#[tactic(auto, using(rel_ops::proofs::Collecting::collecting))]
+fn keys_among(
+    alloc: Global,
+    places: &[ColumnAt],
+    keys: &[ColumnName],
+) -> Result<ColumnRefs, EvalFault>
+    ensures { Gives result (spec.keys_among places.now keys.now) }
+{
+    let mut all = ColumnRefs::new(alloc)?;
+    for key in keys {
+        let place = key_place(places, key)?;
+        all.push(alloc, place)?;
+    }
+    Ok(all)
 }
 
 /// The places of the key columns.
 ///
 /// - Error: `NoColumn` for the first that isn't there.
-#[tactic(auto, using(rel_ops::proofs::Collecting::collecting))]
 pub(crate) fn key_places(
     alloc: Global,
     columns: &[ScopeColumn],
@@ -28,12 +43,8 @@ pub(crate) fn key_places(
 ) -> Result<ColumnRefs, EvalFault>
     ensures { Gives result (spec.key_places columns.now keys.now) }
 {
-    let mut all = ColumnRefs::new(alloc)?;
-    for key in keys {
-        let place = key_place(alloc, columns, key)?;
-        all.push(alloc, place)?;
-    }
-    Ok(all)
+    let places = placed(alloc, columns)?;
+    keys_among(alloc, places.as_slice(), keys)
 }
 
 fn is_key(keys: &[u32], place: u32) -> bool

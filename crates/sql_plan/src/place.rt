@@ -1,9 +1,8 @@
 //! The places of columns.
 ghost use Rattle.std.specs.Prelude.{◌≡◌, IfOk};
-ghost use Rattle.cell_errors.specs.Answers.{Gives};
 ghost use Rattle.sql_plan.specs.Places as spec;
 
-use cell_errors::EvalFault;
+use cell_errors::CellError;
 use expr_meaning::{Named, ScopeColumn, meant};
 use std::alloc::Global;
 use value_types::{ListOf, Name, NoMemory};
@@ -46,15 +45,13 @@ pub(crate) fn placed(alloc: Global, columns: &[ScopeColumn]) -> Result<ListOf<Co
 /// The place of the column that a name stands for.
 ///
 /// - Error: `NoColumn` where there is none, or two of them.
-pub(crate) fn place_of(
-    alloc: Global,
-    columns: &[ScopeColumn],
+pub(crate) fn place_among(
+    places: &[ColumnAt],
     qualifier: &Option<Name>,
     name: &Name,
-) -> Result<u32, EvalFault>
-    ensures { Gives result (spec.place_of columns.now qualifier.now name.now) }
+) -> Result<u32, CellError>
+    ensures { result ≡ spec.place_among places.now qualifier.now name.now }
 {
-    let all = placed(alloc, columns)?;
-    let found = meant(all.as_slice(), qualifier, name)?;
+    let found = meant(places, qualifier, name)?;
     Ok(found.place)
 }

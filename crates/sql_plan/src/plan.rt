@@ -5,7 +5,7 @@ ghost use Rattle.sql_plan.specs.Plan as spec;
 
 use crate::core_plan::{CorePlan, CorePlans, core_checked};
 use crate::heading::{Heading, Headings};
-use crate::place::place_of;
+use crate::place::{ColumnAt, place_among, placed};
 use cell_errors::{CellError, EvalFault};
 use expr_meaning::ScopeColumn;
 use rel_ops::types_agree;
@@ -65,10 +65,10 @@ fn sides_checked(cores: &[CorePlan]) -> Result<(), CellError>
     }
 }
 
-fn key_checked(alloc: Global, columns: &[ScopeColumn], key: &OrderKey) -> Result<SortKey, EvalFault>
-    ensures { Gives result (spec.key_checked columns.now key.now) }
+fn key_checked(places: &[ColumnAt], key: &OrderKey) -> Result<SortKey, EvalFault>
+    ensures { Gives result (spec.key_checked places.now key.now) }
 {
-    let column = place_of(alloc, columns, &None, &key.name)?;
+    let column = place_among(places, &None, &key.name)?;
     Ok(SortKey {
         column,
         descending: key.descending,
@@ -76,6 +76,17 @@ fn key_checked(alloc: Global, columns: &[ScopeColumn], key: &OrderKey) -> Result
 }
 
 #[tactic(auto, using(rel_ops::proofs::Collecting::collecting))]
+fn keys_among(alloc: Global, places: &[ColumnAt], keys: &[OrderKey]) -> Result<SortKeys, EvalFault>
+    ensures { Gives result (spec.keys_among places.now keys.now) }
+{
+    let mut all = SortKeys::new(alloc)?;
+    for key in keys {
+        let found = key_checked(places, key)?;
+        all.push(alloc, found)?;
+    }
+    Ok(all)
+}
+
 fn keys_checked(
     alloc: Global,
     columns: &[ScopeColumn],
@@ -83,12 +94,8 @@ fn keys_checked(
 ) -> Result<SortKeys, EvalFault>
     ensures { Gives result (spec.keys_checked columns.now keys.now) }
 {
-    let mut all = SortKeys::new(alloc)?;
-    for key in keys {
-        let found = key_checked(alloc, columns, key)?;
-        all.push(alloc, found)?;
-    }
-    Ok(all)
+    let places = placed(alloc, columns)?;
+    keys_among(alloc, places.as_slice(), keys)
 }
 
 fn order_checked(
