@@ -7,5 +7,6 @@ pub mod NamesOnce
 pub mod NamesRead
 pub mod Rels
 pub mod Erased
+mod SameSteps
 pub mod Same
 mod Examples
