@@ -8,7 +8,8 @@ use Rattle.cell_model.specs.declared.refusal.EditRefusal.TheVariants as refusal
 use Rattle.edit_wire.specs.declared.edit.EditKind.{EditKind}
 use Rattle.edit_wire.specs.Json.{field}
 use Rattle.edit_wire.specs.Values.{name_in}
-use Rattle.edit_wire.specs.Wire.{append_of, insert_of, update_of, delete_of, branch_of, is_edit_word, kind_named, kind_of, edit_on, edit_in, edit_or}
+use Rattle.edit_wire.specs.EditWords.{is_edit_word}
+use Rattle.edit_wire.specs.Wire.{append_of, insert_of, update_of, delete_of, branch_of, kind_named, kind_of, edit_on, edit_in, edit_or}
 
 abbrev word_of : Data → Option (List ℕ)
 word_of d = field as_str (codes "edit") d

@@ -1,5 +1,6 @@
 -- Spreadsheet commands on the columns of a dataset, in JSON (docs/FORMATS.md, "Spreadsheet commands").
-use Rattle.std.specs.Prelude.{ℕ, ◌&&◌, List, length, codes, nat_le, if◌then◌else◌, Option, Some, None, option_map, option_and_then}
+use Rattle.std.specs.Prelude.{ℕ, ◌&&◌, List, length, codes, nat_le, if◌then◌else◌}
+use Rattle.std.specs.Prelude.{Option, Some, None, option_map, option_and_then}
 use Rattle.std.specs.Str.{bytes_eq}
 use Rattle.serde_json.specs.Data.{Data}
 use Rattle.serde_json.specs.Find.{as_str, as_array}
@@ -29,34 +30,40 @@ kept_in d = option_and_then (λ ds. option_and_then are_kept (all_of name_in ds)
 abbrev pub insert_column_of : List ℕ → Data → Option Command
 insert_column_of dataset d =
     with_members 5 d
-    (option_and_then (λ name. option_and_then (λ kind. option_map (command.InsertColumn dataset name kind) (field position_in (codes "at") d)) (field type_in (codes "type") d))
-    (field name_in (codes "name") d))
+    (option_and_then (λ name. option_and_then (λ kind.
+    option_map (command.InsertColumn dataset name kind) (field position_in (codes "at") d))
+    (field type_in (codes "type") d)) (field name_in (codes "name") d))
 
 -- `name`
 abbrev pub delete_column_of : List ℕ → Data → Option Command
-delete_column_of dataset d = with_members 3 d (option_map (command.DeleteColumn dataset) (field name_in (codes "name") d))
+delete_column_of dataset d =
+    with_members 3 d (option_map (command.DeleteColumn dataset) (field name_in (codes "name") d))
 
 -- `name` and `to`
 abbrev pub rename_column_of : List ℕ → Data → Option Command
 rename_column_of dataset d =
     with_members 4 d
-    (option_and_then (λ name. option_map (command.RenameColumn dataset name) (field name_in (codes "to") d)) (field name_in (codes "name") d))
+    (option_and_then (λ name. option_map (command.RenameColumn dataset name) (field name_in (codes "to") d))
+    (field name_in (codes "name") d))
 
 -- `name` and `at`
 abbrev pub move_column_of : List ℕ → Data → Option Command
 move_column_of dataset d =
     with_members 4 d
-    (option_and_then (λ name. option_map (command.MoveColumn dataset name) (field position_in (codes "at") d)) (field name_in (codes "name") d))
+    (option_and_then (λ name. option_map (command.MoveColumn dataset name) (field position_in (codes "at") d))
+    (field name_in (codes "name") d))
 
 -- `names`
 abbrev pub keep_columns_of : List ℕ → Data → Option Command
-keep_columns_of dataset d = with_members 3 d (option_map (command.KeepColumns dataset) (field kept_in (codes "names") d))
+keep_columns_of dataset d =
+    with_members 3 d (option_map (command.KeepColumns dataset) (field kept_in (codes "names") d))
 
 -- `column` and `text`
 abbrev pub formula_of : List ℕ → Data → Option Command
 formula_of dataset d =
     with_members 4 d
-    (option_and_then (λ column. option_map (command.Formula dataset column) (field as_str (codes "text") d)) (field name_in (codes "column") d))
+    (option_and_then (λ column. option_map (command.Formula dataset column) (field as_str (codes "text") d))
+    (field name_in (codes "column") d))
 
 -- what the word of the field `vizual` asks for, where it is one of these
 abbrev pub column_command : List ℕ → List ℕ → Data → Option Command

@@ -13,10 +13,11 @@ use Rattle.edit_wire.specs.DatasetCommands.{dataset_command}
 -- what a word asks for on a dataset
 abbrev pub command_named : List ℕ → List ℕ → Data → Option Command
 command_named word dataset d =
-    option_or (column_command word dataset d) (option_or (row_command word dataset d) (dataset_command word dataset d))
+    option_or (column_command word dataset d)
+    (option_or (row_command word dataset d) (dataset_command word dataset d))
 
 -- the command of a spreadsheet cell: `vizual`, `dataset` and the fields that the word has
 unfoldable pub command_of : Data → Option Command
 command_of d =
-    option_and_then (λ word. option_and_then (λ dataset. command_named word dataset d) (field name_in (codes "dataset") d))
-    (field as_str (codes "vizual") d)
+    option_and_then (λ word. option_and_then (λ dataset. command_named word dataset d)
+    (field name_in (codes "dataset") d)) (field as_str (codes "vizual") d)

@@ -11,11 +11,13 @@ use Rattle.edit_wire.specs.Values.{name_in}
 
 -- `to`
 abbrev pub rename_dataset_of : List ℕ → Data → Option Command
-rename_dataset_of dataset d = with_members 3 d (option_map (command.RenameDataset dataset) (field name_in (codes "to") d))
+rename_dataset_of dataset d =
+    with_members 3 d (option_map (command.RenameDataset dataset) (field name_in (codes "to") d))
 
 -- `to`
 abbrev pub copy_dataset_of : List ℕ → Data → Option Command
-copy_dataset_of dataset d = with_members 3 d (option_map (command.CopyDataset dataset) (field name_in (codes "to") d))
+copy_dataset_of dataset d =
+    with_members 3 d (option_map (command.CopyDataset dataset) (field name_in (codes "to") d))
 
 -- none
 abbrev pub drop_dataset_of : List ℕ → Data → Option Command

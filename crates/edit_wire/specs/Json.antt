@@ -1,5 +1,6 @@
 -- Looking into JSON: how many fields an object has, what a field holds, and lists.
-use Rattle.std.specs.Prelude.{ℕ, suc, ◌==◌, List, [], ◌∷◌, Bool, false, if◌then◌else◌, Option, Some, None, option_map, option_and_then, is_some, unwrap_or}
+use Rattle.std.specs.Prelude.{ℕ, suc, ◌==◌, List, [], ◌∷◌, Bool, false, if◌then◌else◌}
+use Rattle.std.specs.Prelude.{Option, Some, None, option_map, option_and_then, is_some, unwrap_or}
 use Rattle.std.specs.Option.{option_map_or}
 use Rattle.serde_json.specs.Data.{Data, Items, no_items, item, Members, no_members, member}
 use Rattle.serde_json.specs.Find.{get, as_object}
@@ -13,7 +14,8 @@ member_count (member key d ms) = suc (member_count ms)
 abbrev pub has_members : ℕ → Data → Bool
 has_members count d = unwrap_or (option_map (λ ms. member_count ms == count) (as_object d)) false
 
--- what is read of an object, where it has so many members. Where each of so many fields is read too, it has these alone
+-- what is read of an object, where it has so many members.
+-- Where each of so many fields is read too, it has these alone
 abbrev pub with_members : {A : Type 0} → ℕ → Data → Option A → Option A
 with_members count d found = if has_members count d then found else None
 

@@ -18,4 +18,5 @@ pub mod PicksFile
 -- what a call answers that may refuse an edit
 pub mod Answers
 -- what the functions inside the crate promise each other
+pub mod EditWords
 pub mod Written

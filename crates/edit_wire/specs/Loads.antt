@@ -1,5 +1,6 @@
 -- Load cells (docs/FORMATS.md, "Edit lines").
-use Rattle.std.specs.Prelude.{ℕ, ◌+◌, ◌&&◌, List, [], length, codes, nat_le, if◌then◌else◌, Option, Some, None, option_map, option_and_then}
+use Rattle.std.specs.Prelude.{ℕ, ◌+◌, ◌&&◌, List, [], length, codes, nat_le, if◌then◌else◌}
+use Rattle.std.specs.Prelude.{Option, Some, None, option_map, option_and_then}
 use Rattle.std.specs.Str.{bytes_eq}
 use Rattle.serde_json.specs.Data.{Data, Items}
 use Rattle.serde_json.specs.Find.{as_str, as_array}
@@ -54,7 +55,8 @@ load_members d = 2 + counted (codes "types") d + counted (codes "repair") d
 -- the load of a name and a file, with the types and the repair that are said or else none and `null`
 abbrev pub load_from : List ℕ → List ℕ → Data → Option EditCell
 load_from name file d =
-    option_and_then (λ types. option_map (from.Load name file types) (field_or repair_in repair.Null (codes "repair") d))
+    option_and_then (λ types.
+    option_map (from.Load name file types) (field_or repair_in repair.Null (codes "repair") d))
     (field_or types_in [] (codes "types") d)
 
 -- a load cell

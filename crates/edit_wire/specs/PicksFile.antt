@@ -1,5 +1,6 @@
 -- The picks of a file (docs/FORMATS.md, "Picks").
-use Rattle.std.specs.Prelude.{◌≡◌, ℕ, ◌+◌, ◌-◌, ◌^◌, min, List, [], ◌∷◌, length, codes, nat_le, if◌then◌else◌, Option, Some, None, option_map, option_and_then, Result, Ok, Err}
+use Rattle.std.specs.Prelude.{◌≡◌, ℕ, ◌+◌, ◌-◌, ◌^◌, min, List, [], ◌∷◌, length, codes, nat_le, if◌then◌else◌}
+use Rattle.std.specs.Prelude.{Option, Some, None, option_map, option_and_then, Result, Ok, Err}
 use Rattle.std.specs.Option.{option_or}
 use Rattle.serde_json.specs.Data.{Data}
 use Rattle.serde_json.specs.Find.{as_bool}
@@ -25,7 +26,8 @@ count_in d = option_and_then (λ n. if nat_le 1 n then Some n else None) (positi
 -- the field of a record and a column
 abbrev pub field_site : Data → Option Site
 field_site d =
-    option_and_then (λ r. option_map (site.Field r) (field count_in (codes "column") d)) (field count_in (codes "record") d)
+    option_and_then (λ r. option_map (site.Field r) (field count_in (codes "column") d))
+    (field count_in (codes "record") d)
 
 -- a surplus record
 abbrev pub record_site : Data → Option Site
@@ -47,7 +49,8 @@ keep_choice d = option_map choice.Keep (field as_bool (codes "keep") d)
 abbrev pub pick_at : ℕ → Option Site → Option Choice → Data → Option Pick
 pick_at count at chosen d =
     with_members count d
-    (option_and_then (λ cell. option_and_then (λ s. option_map (pick_of cell s) chosen) at) (field count_in (codes "cell") d))
+    (option_and_then (λ cell. option_and_then (λ s. option_map (pick_of cell s) chosen) at)
+    (field count_in (codes "cell") d))
 
 -- a pick of a repaired field
 abbrev pub field_pick : Data → Option Pick

@@ -16,7 +16,8 @@ use Rattle.edit_wire.specs.declared.edit.EditKind.TheVariants as edit
 abbrev pub unmarked : List Marked → Bool
 unmarked values = list_all (λ m. not m.marked) values
 
--- with columns, closed, in certain order, its rows numbered from 1 and nothing in them marked. Such a table has no unsure row
+-- with columns, closed, in certain order, its rows numbered from 1 and nothing in them marked.
+-- Such a table has no unsure row
 pub record IsPlainTable (t : TableData) : Type 0 where
   pub columns : 1 ≤ length t.columns
   pub closed : t.is_open ≡ false

@@ -1,5 +1,6 @@
 -- Spreadsheet commands on the rows of a dataset, in JSON (docs/FORMATS.md, "Spreadsheet commands").
-use Rattle.std.specs.Prelude.{ℕ, ◌&&◌, List, length, codes, Bool, true, false, nat_le, if◌then◌else◌, Option, Some, None, option_map, option_and_then}
+use Rattle.std.specs.Prelude.{ℕ, ◌&&◌, List, length, codes, Bool, true, false, nat_le, if◌then◌else◌}
+use Rattle.std.specs.Prelude.{Option, Some, None, option_map, option_and_then}
 use Rattle.std.specs.Str.{bytes_eq}
 use Rattle.serde_json.specs.Data.{Data, Items, no_items, item, null, boolean, number, string, array, object}
 use Rattle.serde_json.specs.Find.{as_str, as_array}
@@ -32,7 +33,8 @@ order_in d = option_and_then order_named (as_str d)
 -- a column and an order, and nothing after them
 abbrev pub sort_name_from : Items → Option SortName
 sort_name_from (item a (item b no_items)) =
-    option_and_then (λ n. option_map (λ descending. record { name = n; descending = descending }) (order_in b)) (name_in a)
+    option_and_then (λ n. option_map (λ descending. record { name = n; descending = descending }) (order_in b))
+    (name_in a)
 sort_name_from _ = None
 
 -- the same as an array
@@ -53,7 +55,8 @@ by_in d = option_and_then (λ ds. option_and_then are_sorted_by (all_of sort_nam
 abbrev pub insert_row_of : List ℕ → Data → Option Command
 insert_row_of dataset d =
     with_members 4 d
-    (option_and_then (λ row. option_map (command.InsertRow dataset row) (field after_in (codes "after") d)) (field name_in (codes "row") d))
+    (option_and_then (λ row. option_map (command.InsertRow dataset row) (field after_in (codes "after") d))
+    (field name_in (codes "row") d))
 
 -- `row`
 abbrev pub delete_row_of : List ℕ → Data → Option Command
@@ -63,14 +66,16 @@ delete_row_of dataset d = with_members 3 d (option_map (command.DeleteRow datase
 abbrev pub move_row_of : List ℕ → Data → Option Command
 move_row_of dataset d =
     with_members 4 d
-    (option_and_then (λ row. option_map (command.MoveRow dataset row) (field after_in (codes "after") d)) (field as_str (codes "row") d))
+    (option_and_then (λ row. option_map (command.MoveRow dataset row) (field after_in (codes "after") d))
+    (field as_str (codes "row") d))
 
 -- `row`, `column` and `value`
 abbrev pub set_value_of : List ℕ → Data → Option Command
 set_value_of dataset d =
     with_members 5 d
-    (option_and_then (λ row. option_and_then (λ column. option_map (command.SetValue dataset row column) (field value_of (codes "value") d)) (field name_in (codes "column") d))
-    (field as_str (codes "row") d))
+    (option_and_then (λ row. option_and_then (λ column.
+    option_map (command.SetValue dataset row column) (field value_of (codes "value") d))
+    (field name_in (codes "column") d)) (field as_str (codes "row") d))
 
 -- `by`
 abbrev pub sort_of : List ℕ → Data → Option Command

@@ -11,4 +11,5 @@ use Rattle.edit_wire.specs.Values.{name_in}
 unfoldable pub sql_of : Data → Option CellKind
 sql_of d =
     with_members 2 d
-    (option_and_then (λ text. option_map (cell.Sql text) (field name_in (codes "into") d)) (field as_str (codes "sql") d))
+    (option_and_then (λ text. option_map (cell.Sql text) (field name_in (codes "into") d))
+    (field as_str (codes "sql") d))

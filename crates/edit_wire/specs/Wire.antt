@@ -1,5 +1,6 @@
 -- The edit of a line (docs/FORMATS.md, "Edit lines").
-use Rattle.std.specs.Prelude.{ℕ, ◌||◌, List, Bool, codes, if◌then◌else◌, Option, Some, None, option_map, option_and_then, ok_or, Result, Err}
+use Rattle.std.specs.Prelude.{ℕ, List, codes, if◌then◌else◌}
+use Rattle.std.specs.Prelude.{Option, Some, None, option_map, option_and_then, ok_or, Result, Err}
 use Rattle.std.specs.Str.{bytes_eq}
 use Rattle.serde_json.specs.Data.{Data}
 use Rattle.serde_json.specs.Find.{as_str}
@@ -25,7 +26,8 @@ append_of d = with_members 3 d (option_map edit.Append (field cell_of (codes "ce
 abbrev pub position_and_cell : Data → Option (ℕ × EditCell)
 position_and_cell d =
     with_members 4 d
-    (option_and_then (λ at. option_map (λ cell. (at, cell)) (field cell_of (codes "cell") d)) (field position_in (codes "at") d))
+    (option_and_then (λ at. option_map (λ cell. (at, cell)) (field cell_of (codes "cell") d))
+    (field position_in (codes "at") d))
 
 -- those of an insert
 abbrev pub insert_of : Data → Option EditKind
@@ -52,11 +54,6 @@ kind_named word d =
     else (if bytes_eq word (codes "delete") then delete_of d
     else (if bytes_eq word (codes "branch") then branch_of d
     else None))))
-
--- a word of the field `edit` that asks for something
-abbrev pub is_edit_word : List ℕ → Bool
-is_edit_word word =
-    bytes_eq word (codes "append") || (bytes_eq word (codes "insert") || (bytes_eq word (codes "update") || (bytes_eq word (codes "delete") || bytes_eq word (codes "branch"))))
 
 -- what the field `edit` asks for
 abbrev pub kind_of : Data → Option EditKind

@@ -1,6 +1,7 @@
 //! Spreadsheet cells as JSON.
-ghost use Rattle.std.specs.Prelude.{IfOk};
+ghost use Rattle.std.specs.Prelude.{IfOk, IsTrue};
 ghost use Rattle.serde_json.specs.View.{view};
+ghost use Rattle.sheet_commands.specs.Groups.{is_on_columns, is_on_a_row};
 ghost use Rattle.edit_wire.specs.Cells.{vizual, cell_of};
 ghost use Rattle.edit_wire.specs.Plain.{IsPlainCommand};
 ghost use Rattle.edit_wire.specs.Written.{IsJsonOf};
@@ -18,11 +19,9 @@ use sheet_commands::Command;
 use std::alloc::Global;
 use value_types::NoMemory;
 
-/// The JSON of a spreadsheet cell, which is read as this cell.
-///
-/// - Source: docs/FORMATS.md, "Spreadsheet commands".
-pub fn command_json(alloc: Global, command: &Command) -> Result<Json, NoMemory>
-    requires { IsPlainCommand command.now }
+fn on_columns_json(alloc: Global, command: &Command) -> Result<Json, NoMemory>
+    requires on_columns { IsTrue (is_on_columns command.now) }
+    requires plain { IsPlainCommand command.now }
     ensures { IfOk result (λ json. IsJsonOf cell_of 4 (vizual command.now) (view json)) }
 {
     match command {
@@ -38,6 +37,15 @@ pub fn command_json(alloc: Global, command: &Command) -> Result<Json, NoMemory>
         }
         Command::MoveColumn { dataset, name, at } => move_column_json(alloc, dataset, name, *at),
         Command::KeepColumns { dataset, names } => keep_columns_json(alloc, dataset, names),
+        _ => unreachable!(),
+    }
+}
+
+fn on_a_row_json(alloc: Global, command: &Command) -> Result<Json, NoMemory>
+    requires { IsTrue (is_on_a_row command.now) }
+    ensures { IfOk result (λ json. IsJsonOf cell_of 4 (vizual command.now) (view json)) }
+{
+    match command {
         Command::InsertRow {
             dataset,
             row,
@@ -55,6 +63,27 @@ pub fn command_json(alloc: Global, command: &Command) -> Result<Json, NoMemory>
             column,
             value,
         } => set_value_json(alloc, dataset, row, column, value),
+        _ => unreachable!(),
+    }
+}
+
+/// The JSON of a spreadsheet cell, which is read as this cell.
+///
+/// - Source: docs/FORMATS.md, "Spreadsheet commands".
+pub fn command_json(alloc: Global, command: &Command) -> Result<Json, NoMemory>
+    requires { IsPlainCommand command.now }
+    ensures { IfOk result (λ json. IsJsonOf cell_of 4 (vizual command.now) (view json)) }
+{
+    match command {
+        Command::InsertColumn { .. }
+        | Command::DeleteColumn { .. }
+        | Command::RenameColumn { .. }
+        | Command::MoveColumn { .. }
+        | Command::KeepColumns { .. } => on_columns_json(alloc, command),
+        Command::InsertRow { .. }
+        | Command::DeleteRow { .. }
+        | Command::MoveRow { .. }
+        | Command::SetValue { .. } => on_a_row_json(alloc, command),
         Command::Formula {
             dataset,
             column,

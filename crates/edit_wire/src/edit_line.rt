@@ -3,6 +3,7 @@ ghost use Rattle.std.specs.Prelude.{◌≡◌, IfOk};
 ghost use Rattle.serde_json.specs.View.{view};
 ghost use Rattle.edit_wire.specs.Answers.{Gives};
 ghost use Rattle.edit_wire.specs.Cells as cells;
+ghost use Rattle.edit_wire.specs.EditWords.{is_edit_word};
 ghost use Rattle.edit_wire.specs.Plain.{IsPlainEdit};
 ghost use Rattle.edit_wire.specs.Wire as spec;
 
@@ -140,7 +141,7 @@ fn edit_in(alloc: Global, json: &Json) -> Result<Option<Edit>, NoMemory>
 
 /// Whether a word is one of those that edits have.
 fn is_edit_word(word: &[u8]) -> bool
-    ensures { result ≡ spec.is_edit_word word.now }
+    ensures { result ≡ is_edit_word word.now }
 {
     word == b"append".as_slice()
         || word == b"insert".as_slice()

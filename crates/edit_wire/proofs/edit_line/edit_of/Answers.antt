@@ -1,6 +1,6 @@
 use Rattle.std.proofs.Common.{◌≡◌, false, sym, ap, ◌∙◌, rules}
 use Rattle.json_glance.specs.Line.{json_of}
-use Rattle.edit_wire.specs.Wire.{is_edit_word}
+use Rattle.edit_wire.specs.EditWords.{is_edit_word}
 use Rattle.edit_wire.proofs.EditWords.{no_text, no_word}
 use Rattle.edit_wire.proofs.edit_line.edit_of.Goals as goal
 
