@@ -1,11 +1,12 @@
 #!/usr/bin/env python3
-"""Queries and spreadsheet commands on 3,250 and 13,000 rows, which a join with two columns more still holds, the queries beside Python's sqlite3.
+"""Queries and spreadsheet commands on up to 20,000 rows of three columns, the queries beside Python's sqlite3.
 
     python3 bench/queries.py PROGRAM
 
 The program runs twice for each: with a notebook that loads the tables and drops them again, and with the cell that is
 measured put between the two. The difference of the best times is the cell and the printing of what it leaves. sqlite3
-has the same tables in memory, and the time is that of the query and the fetch of its rows.
+has the same tables in memory, and the time is that of the query and the fetch of its rows. Each is measured on a quarter
+of its rows too, and the growth told.
 """
 import json
 import os
@@ -19,23 +20,34 @@ import time
 
 RUNS = 5
 
+# A dataset has room for 65,536 values: 20,000 rows of three columns, but 13,000 with the two columns more that a join
+# has before its items are taken, and 16,000 with one column more.
+ROWS = 20_000
+JOINED = 13_000
+WIDER = 16_000
+
 QUERIES = [
-    ("WHERE", "SELECT id FROM t WHERE price > 90"),
-    ("a computed column", "SELECT id, price * 2 + 1 AS p FROM t"),
-    ("GROUP BY with COUNT and SUM", "SELECT shop, COUNT(*) AS n, SUM(price) AS total FROM t GROUP BY shop"),
-    ("GROUP BY of as many groups as rows", "SELECT id, COUNT(*) AS n FROM t GROUP BY id"),
-    ("ORDER BY", "SELECT id, price FROM t ORDER BY price DESC"),
-    ("a join with eight rows", "SELECT t.id AS id, u.name AS name FROM t JOIN u ON t.shop = u.shop"),
+    ("WHERE", ROWS, "SELECT id FROM t WHERE price > 90"),
+    ("a computed column", ROWS, "SELECT id, price * 2 + 1 AS p FROM t"),
+    ("GROUP BY with COUNT and SUM", ROWS, "SELECT shop, COUNT(*) AS n, SUM(price) AS total FROM t GROUP BY shop"),
+    ("GROUP BY of as many groups as rows", ROWS, "SELECT id, COUNT(*) AS n FROM t GROUP BY id"),
+    ("ORDER BY", ROWS, "SELECT id, price FROM t ORDER BY price DESC"),
+    ("a join with eight rows", JOINED, "SELECT t.id AS id, u.name AS name FROM t JOIN u ON t.shop = u.shop"),
 ]
 
 COMMANDS = [
-    ("copy_dataset", {"to": "q"}),
-    ("insert_column", {"name": "c", "type": "int", "at": 1}),
-    ("keep_columns", {"names": ["id"]}),
-    ("insert_row", {"row": "z", "after": None}),
-    ("set_value", {"row": "#1", "column": "price", "value": 1}),
-    ("formula", {"column": "price", "text": "price * 2 + 1"}),
-    ("sort", {"by": [["price", "desc"]]}),
+    ("copy_dataset", ROWS, {"to": "q"}),
+    ("insert_column", WIDER, {"name": "c", "type": "int", "at": 1}),
+    ("delete_column", ROWS, {"name": "shop"}),
+    ("rename_column", ROWS, {"name": "price", "to": "cost"}),
+    ("move_column", ROWS, {"name": "price", "at": 1}),
+    ("keep_columns", ROWS, {"names": ["id"]}),
+    ("insert_row", ROWS, {"row": "z", "after": None}),
+    ("delete_row", ROWS, {"row": "#1"}),
+    ("move_row", ROWS, {"row": "#2", "after": None}),
+    ("set_value", ROWS, {"row": "#1", "column": "price", "value": 1}),
+    ("formula", ROWS, {"column": "price", "text": "price * 2 + 1"}),
+    ("sort", ROWS, {"by": [["price", "desc"]]}),
 ]
 
 
@@ -68,48 +80,70 @@ def base(names):
     return "".join(line("append", cell) for cell in loads + drops)
 
 
-def measure(program, rows, folder):
-    t, u = tables(rows)
-    with open(os.path.join(folder, "t.csv"), "w") as file:
-        file.write("id,shop,price\n" + "".join("%d,%d,%.2f\n" % (i, s, p / 10000) for i, s, p in t))
-    with open(os.path.join(folder, "u.csv"), "w") as file:
-        file.write("shop,name\n" + "".join("%d,%s\n" % row for row in u))
-    beside = sqlite3.connect(":memory:")
-    beside.execute("CREATE TABLE t (id INTEGER, shop INTEGER, price INTEGER)")
-    beside.execute("CREATE TABLE u (shop INTEGER, name TEXT)")
-    beside.executemany("INSERT INTO t VALUES (?, ?, ?)", [(i, s, p // 100) for i, s, p in t])
-    beside.executemany("INSERT INTO u VALUES (?, ?)", u)
-    start = base(["t", "u"])
-    empty = best(program, folder, start)
-    results = []
-    for name, text in QUERIES:
-        ours = best(program, folder, start + line("insert", {"sql": text, "into": "q"}, at=3)) - empty
+class Tables:
+    """The tables of so many rows: files in a folder, the same in sqlite3, and the time of the notebook without a cell more."""
+
+    def __init__(self, program, rows):
+        self.program = program
+        self.folder = tempfile.mkdtemp(prefix="vizier-queries-", dir="/dev/shm" if os.path.isdir("/dev/shm") else None)
+        t, u = tables(rows)
+        with open(os.path.join(self.folder, "t.csv"), "w") as file:
+            file.write("id,shop,price\n" + "".join("%d,%d,%.2f\n" % (i, s, p / 10000) for i, s, p in t))
+        with open(os.path.join(self.folder, "u.csv"), "w") as file:
+            file.write("shop,name\n" + "".join("%d,%s\n" % row for row in u))
+        self.beside = sqlite3.connect(":memory:")
+        self.beside.execute("CREATE TABLE t (id INTEGER, shop INTEGER, price INTEGER)")
+        self.beside.execute("CREATE TABLE u (shop INTEGER, name TEXT)")
+        self.beside.executemany("INSERT INTO t VALUES (?, ?, ?)", [(i, s, p // 100) for i, s, p in t])
+        self.beside.executemany("INSERT INTO u VALUES (?, ?)", u)
+        self.start = base(["t", "u"])
+        self.empty = best(program, self.folder, self.start)
+
+    def cell(self, cell):
+        """The time that a cell adds."""
+        return best(self.program, self.folder, self.start + line("insert", cell, at=3)) - self.empty
+
+    def query(self, text):
+        """The time of sqlite3 for a query."""
         times = []
         for _ in range(RUNS):
             began = time.perf_counter()
-            beside.execute(text).fetchall()
+            self.beside.execute(text).fetchall()
             times.append(time.perf_counter() - began)
-        results.append((name, ours, min(times)))
-    for name, more in COMMANDS:
-        cell = dict(vizual=name, dataset="t", **more)
-        ours = best(program, folder, start + line("insert", cell, at=3)) - empty
-        results.append((name, ours, None))
-    return results
+        return min(times)
+
+    def close(self):
+        self.beside.close()
+        shutil.rmtree(self.folder)
+
+
+def measured(program):
+    """The name, the number of rows, the times of a cell on a quarter of them and on all, and that of sqlite3 on all."""
+    cells = [(name, rows, {"sql": text, "into": "q"}, text) for name, rows, text in QUERIES]
+    cells += [(name, rows, dict(vizual=name, dataset="t", **more), None) for name, rows, more in COMMANDS]
+    there = {}
+    try:
+        for name, rows, cell, text in cells:
+            for count in (rows // 4, rows):
+                if count not in there:
+                    there[count] = Tables(program, count)
+            yield (name, rows, there[rows // 4].cell(cell), there[rows].cell(cell),
+                   None if text is None else there[rows].query(text))
+    finally:
+        for it in there.values():
+            it.close()
 
 
 def main():
-    program = os.path.abspath(sys.argv[1])
-    folder = tempfile.mkdtemp(prefix="vizier-queries-", dir="/dev/shm" if os.path.isdir("/dev/shm") else None)
-    try:
-        small = measure(program, 3250, folder)
-        large = measure(program, 13000, folder)
-    finally:
-        shutil.rmtree(folder)
-    print("13,000 rows of three columns; growth is the time for 13,000 rows to that for 3,250")
-    for (name, few, _), (_, many, other) in zip(small, large):
-        print("  %-36s %8.2f ms, growth %4.1f" % (name, many * 1000, many / max(few, 1e-6)), end="")
-        print("" if other is None else "; sqlite3 %7.2f ms, ratio %5.2f" % (other * 1000, many / other))
+    if len(sys.argv) != 2:
+        print(__doc__)
+        return 2
+    print("rows of three columns; growth is the time for them to that for a quarter of them")
+    for name, rows, few, many, other in measured(os.path.abspath(sys.argv[1])):
+        print("  %-36s %6d rows %8.2f ms, growth %4.1f" % (name, rows, many * 1000, many / max(few, 1e-6)), end="")
+        print("" if other is None else "; sqlite3 %7.2f ms, ratio %5.2f" % (other * 1000, many / other), flush=True)
+    return 0
 
 
 if __name__ == "__main__":
-    main()
+    sys.exit(main())
