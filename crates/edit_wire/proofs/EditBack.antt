@@ -8,11 +8,11 @@ use Rattle.edit_wire.specs.declared.edit.Edit.{Edit}
 use Rattle.edit_wire.specs.declared.edit.EditCell.{EditCell}
 use Rattle.edit_wire.specs.declared.edit.EditKind.TheVariants as kind
 use Rattle.edit_wire.specs.Cells.{cell_of}
-use Rattle.edit_wire.specs.Values.{name_in}
+use Rattle.json_fields.specs.Values.{name_in}
 use Rattle.json_glance.specs.Line.{json_of}
 use Rattle.edit_wire.specs.Wire.{edit_on, edit_in, edit_of}
-use Rattle.edit_wire.proofs.Ranges.{in_range}
-use Rattle.edit_wire.specs.Written.{IsJsonOf}
+use Rattle.json_fields.proofs.Ranges.{in_range}
+use Rattle.json_fields.specs.Written.{IsJsonOf}
 
 -- ---- objects of an edit's fields
 

@@ -6,8 +6,8 @@ use Rattle.json_glance.specs.Line.{told, glance_at}
 use Rattle.json_glance.specs.declared.look.Glance.TheVariants.{NotJson, NoText, Text}
 use Rattle.cell_model.specs.declared.refusal.EditRefusal.TheVariants as refusal
 use Rattle.edit_wire.specs.declared.edit.EditKind.{EditKind}
-use Rattle.edit_wire.specs.Json.{field}
-use Rattle.edit_wire.specs.Values.{name_in}
+use Rattle.json_fields.specs.Json.{field}
+use Rattle.json_fields.specs.Values.{name_in}
 use Rattle.edit_wire.specs.EditWords.{is_edit_word}
 use Rattle.edit_wire.specs.Wire.{append_of, insert_of, update_of, delete_of, branch_of, kind_named, kind_of, edit_on, edit_in, edit_or}
 

@@ -1,43 +1,21 @@
 -- Worked examples of edit lines and picks.
-use Rattle.std.proofs.Common.{◌≡◌, ◌^◌, [], ◌∷◌, true, false, refl}
+use Rattle.std.proofs.Common.{◌≡◌, ◌^◌, [], ◌∷◌, false, refl}
 use Rattle.std.specs.Prelude.{codes, pos, Some, None, Ok}
 use Rattle.serde_json.specs.Data.{null, boolean, number, string, array, object, unsigned, no_items, item, no_members, member}
 use Rattle.value_types.specs.Numbers.{fixed_of}
 use Rattle.value_types.specs.declared.value.ColumnType.TheVariants as kind
 use Rattle.value_types.specs.declared.value.Value.TheVariants as value
-use Rattle.dataset_types.specs.Fitting.{fitted}
 use Rattle.dataset_types.specs.Picks.{pick_of}
 use Rattle.dataset_types.specs.declared.load_options.Repair.TheVariants as repair
 use Rattle.dataset_types.specs.declared.picks.Site.TheVariants as site
 use Rattle.dataset_types.specs.declared.picks.Choice.TheVariants as choice
-use Rattle.sheet_commands.specs.declared.command.Command.TheVariants as command
 use Rattle.cell_model.specs.declared.cell.CellKind.TheVariants as cell
 use Rattle.edit_wire.specs.declared.edit.EditCell.TheVariants as from
 use Rattle.edit_wire.specs.declared.edit.EditKind.TheVariants as edit
 use Rattle.edit_wire.specs.Loads.{load_of}
-use Rattle.edit_wire.specs.Commands.{command_of}
 use Rattle.edit_wire.specs.Sql.{sql_of}
-use Rattle.edit_wire.specs.Make.{column_in}
 use Rattle.edit_wire.specs.PicksFile.{pick_in, said_number, picks_of}
-use Rattle.edit_wire.specs.Values.{value_of}
 use Rattle.edit_wire.specs.Wire.{edit_on, edit_in}
-
--- {"fixed":"2.5"} is 25,000 ten-thousandths
-fixed : value_of (object (member (codes "fixed") (string (codes "2.5")) no_members)) ≡ Some (value.Fixed (pos 25000))
-unfolding fixed_of
-fixed = refl
-
--- a field more, and it is no value
-no_fixed : value_of (object (member (codes "a") null (member (codes "fixed") (string (codes "2.5")) no_members))) ≡ None
-no_fixed = refl
-
--- a whole number in a `fixed` column is widened
-widened : fitted kind.Fixed (value.Int (pos 3)) ≡ Some (value.Fixed (pos 30000))
-widened = refl
-
--- ["a","int"]
-column : column_in (array (item (string (codes "a")) (item (string (codes "int")) no_items))) ≡ Some (record { name = codes "a"; kind = kind.Int })
-column = refl
 
 -- {"edit":"delete","branch":"main","at":7}
 delete : edit_in (object (member (codes "at") (number (unsigned 7)) (member (codes "branch") (string (codes "main")) (member (codes "edit") (string (codes "delete")) no_members)))) ≡ Some (edit_on (codes "main") (edit.Delete 7))
@@ -66,36 +44,6 @@ whole_load = refl
 no_load : load_of (object (member (codes "file") (string (codes "a")) (member (codes "load") (string (codes "t")) (member (codes "types") null no_members)))) ≡ None
 unfolding load_of
 no_load = refl
-
--- ---- spreadsheet cells
-
--- {"vizual":"insert_column","dataset":"t","name":"a","type":"int","at":1}
-insert_column : command_of (object (member (codes "at") (number (unsigned 1)) (member (codes "dataset") (string (codes "t")) (member (codes "name") (string (codes "a")) (member (codes "type") (string (codes "int")) (member (codes "vizual") (string (codes "insert_column")) no_members))))))
-    ≡ Some (command.InsertColumn (codes "t") (codes "a") kind.Int 1)
-unfolding command_of
-insert_column = refl
-
--- {"vizual":"insert_row","dataset":"t","row":"z","after":null}: the row comes first
-first_row : command_of (object (member (codes "after") null (member (codes "dataset") (string (codes "t")) (member (codes "row") (string (codes "z")) (member (codes "vizual") (string (codes "insert_row")) no_members)))))
-    ≡ Some (command.InsertRow (codes "t") (codes "z") None)
-unfolding command_of
-first_row = refl
-
--- `after` has to be there
-no_after : command_of (object (member (codes "dataset") (string (codes "t")) (member (codes "row") (string (codes "z")) (member (codes "vizual") (string (codes "insert_row")) no_members)))) ≡ None
-unfolding command_of
-no_after = refl
-
--- {"vizual":"sort","dataset":"t","by":[["a","desc"]]}
-sort : command_of (object (member (codes "by") (array (item (array (item (string (codes "a")) (item (string (codes "desc")) no_items))) no_items)) (member (codes "dataset") (string (codes "t")) (member (codes "vizual") (string (codes "sort")) no_members))))
-    ≡ Some (command.Sort (codes "t") (record { name = codes "a"; descending = true } ∷ []))
-unfolding command_of
-sort = refl
-
--- a column that comes twice isn't kept
-no_keep : command_of (object (member (codes "dataset") (string (codes "t")) (member (codes "names") (array (item (string (codes "a")) (item (string (codes "a")) no_items))) (member (codes "vizual") (string (codes "keep_columns")) no_members)))) ≡ None
-unfolding command_of
-no_keep = refl
 
 -- ---- SELECT cells
 

@@ -23,9 +23,9 @@ use Rattle.dataset_types.specs.declared.column.Column.{Column}
 use Rattle.dataset_types.specs.declared.row.Marked.{Marked}
 use Rattle.dataset_types.specs.declared.row.Row.{Row}
 use Rattle.edit_wire.specs.Plain.{unmarked}
-use Rattle.edit_wire.specs.Values.{value_of}
+use Rattle.json_fields.specs.Values.{value_of}
 use Rattle.edit_wire.specs.Make.{certain, values_of, row_of, rows_from, heading_of, limited, table_from}
-use Rattle.edit_wire.proofs.Options.{mapped, chained, first_and_rest}
+use Rattle.json_fields.proofs.Options.{mapped, chained, first_and_rest}
 
 -- ---- values
 

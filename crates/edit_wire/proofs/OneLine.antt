@@ -11,7 +11,7 @@ use Rattle.json.specs.Word.{head, after_digits, after_minus, after_sign, after_w
 use Rattle.json.specs.Print.{escape_letter, escape_byte, escape, quoted, token_text, separator, ends, begins, print_from, print, IsPrintableOrBad, ArePrintableOrBad, IsNumber}
 use Rattle.json.proofs.Numbered.{ArePrintableOrBad-tokens}
 use Rattle.edit_wire.specs.Plain.{IsOneLine}
-use Rattle.edit_wire.proofs.Options.{chained}
+use Rattle.json_fields.proofs.Options.{chained}
 
 -- ---- bytes and texts
 

@@ -18,19 +18,21 @@ use Rattle.edit_wire.specs.declared.edit.EditCell.{EditCell}
 use Rattle.edit_wire.specs.declared.edit.EditCell.TheVariants as from
 use Rattle.edit_wire.specs.declared.edit.EditKind.{EditKind}
 use Rattle.edit_wire.specs.declared.edit.EditKind.TheVariants as edit
-use Rattle.edit_wire.specs.Json.{has_members, field, field_or, all_of}
-use Rattle.edit_wire.specs.Make.{column_in, is_heading, heading_of, rows_from, limited, table_from, table_in, make_of}
+use Rattle.json_fields.specs.Json.{has_members, field, field_or, all_of}
+use Rattle.json_fields.specs.Columns.{column_in}
+use Rattle.edit_wire.specs.Make.{is_heading, heading_of, rows_from, limited, table_from, table_in, make_of}
 use Rattle.edit_wire.specs.Cells.{vizual, cell_of}
-use Rattle.edit_wire.specs.Commands.{command_of}
+use Rattle.sheet_json.specs.Commands.{command_of}
 use Rattle.edit_wire.specs.Sql.{sql_of}
-use Rattle.edit_wire.specs.Loads.{declared_in, types_of, types_in, repair_in, file_named, file_in, load_members, load_from, load_of}
+use Rattle.json_fields.specs.LoadOptions.{declared_in, types_of, types_in, repair_in}
+use Rattle.edit_wire.specs.Loads.{file_named, file_in, load_members, load_from, load_of}
 use Rattle.edit_wire.specs.Plain.{IsPlainTable, IsPlainCell, IsPlainKind, IsPlainEdit}
-use Rattle.edit_wire.specs.Values.{name_in}
-use Rattle.edit_wire.specs.Numbers.{position_in}
+use Rattle.json_fields.specs.Values.{name_in}
+use Rattle.json_fields.specs.Numbers.{position_in}
 use Rattle.edit_wire.specs.Wire.{position_and_cell, append_of, insert_of, update_of, delete_of, branch_of, kind_named, kind_of, edit_on, edit_in}
 use Rattle.edit_wire.proofs.Made.{AreRows, are_rows}
-use Rattle.edit_wire.proofs.Options.{mapped, chained, taken, within, which, first_of_two}
-use Rattle.edit_wire.proofs.PlainCommands.{command_plain}
+use Rattle.json_fields.proofs.Options.{mapped, chained, taken, within, which, first_of_two}
+use Rattle.sheet_json.proofs.PlainCommands.{command_plain}
 
 heading_some : (heads : Items) (cs : List Column) → heading_of heads ≡ Some cs → 1 ≤ length cs
 heading_some heads cs e =

@@ -5,11 +5,11 @@ use Rattle.cell_model.specs.declared.cell.CellKind.TheVariants as cell
 use Rattle.edit_wire.specs.declared.edit.EditCell.TheVariants as from
 use Rattle.edit_wire.specs.Make.{make_of}
 use Rattle.edit_wire.specs.Loads.{load_of}
-use Rattle.edit_wire.specs.Commands.{command_of}
+use Rattle.sheet_json.specs.Commands.{command_of}
 use Rattle.edit_wire.specs.Sql.{sql_of}
 use Rattle.edit_wire.specs.Cells.{cell_of}
-use Rattle.edit_wire.specs.Values.{name_in}
-use Rattle.edit_wire.specs.Written.{IsJsonOf}
+use Rattle.json_fields.specs.Values.{name_in}
+use Rattle.json_fields.specs.Written.{IsJsonOf}
 
 pub sql_back : (text into : List ℕ) (d into_d : Data) → IsJsonOf name_in 0 into into_d
     → d ≡ object (member (codes "into") into_d (member (codes "sql") (string text) no_members))

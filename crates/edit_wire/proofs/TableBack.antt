@@ -16,12 +16,13 @@ use Rattle.dataset_types.proofs.RuleLemmas.{names_decide}
 use Rattle.dataset_types.specs.declared.column.Column.{Column}
 use Rattle.dataset_types.specs.declared.row.Marked.{Marked}
 use Rattle.dataset_types.specs.declared.row.Row.{Row}
-use Rattle.edit_wire.specs.Json.{all_of}
-use Rattle.edit_wire.specs.Make.{certain, values_of, row_of, rows_from, column_in, heading_of, table_from}
+use Rattle.json_fields.specs.Json.{all_of}
+use Rattle.edit_wire.specs.Make.{certain, values_of, row_of, rows_from, heading_of, table_from}
+use Rattle.json_fields.specs.Columns.{column_in}
 use Rattle.edit_wire.specs.Plain.{unmarked, IsPlainTable}
-use Rattle.edit_wire.specs.Values.{value_of}
-use Rattle.edit_wire.specs.Written.{bare_values, values_in}
-use Rattle.edit_wire.proofs.Options.{chained, first_and_rest}
+use Rattle.json_fields.specs.Values.{value_of}
+use Rattle.json_fields.specs.Written.{bare_values, values_in}
+use Rattle.json_fields.proofs.Options.{chained, first_and_rest}
 
 -- ---- values
 

@@ -8,7 +8,7 @@ use Rattle.edit_wire.specs.declared.edit.EditCell.{EditCell}
 use Rattle.edit_wire.specs.declared.edit.EditCell.TheVariants as from
 use Rattle.edit_wire.specs.Make.{make_of}
 use Rattle.edit_wire.specs.Loads.{load_of}
-use Rattle.edit_wire.specs.Commands.{command_of}
+use Rattle.sheet_json.specs.Commands.{command_of}
 use Rattle.edit_wire.specs.Sql.{sql_of}
 
 -- the spreadsheet cell of a command

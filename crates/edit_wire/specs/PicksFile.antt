@@ -14,10 +14,10 @@ use Rattle.dataset_types.specs.declared.picks.Pick.{Pick}
 use Rattle.dataset_types.specs.Picks.{pick_of}
 use Rattle.edit_wire.specs.declared.picks.PicksFault.{PicksFault}
 use Rattle.edit_wire.specs.declared.picks.PicksFault.TheVariants as fault
-use Rattle.edit_wire.specs.Json.{with_members, field}
-use Rattle.edit_wire.specs.Values.{value_of}
+use Rattle.json_fields.specs.Json.{with_members, field}
+use Rattle.json_fields.specs.Values.{value_of}
 use Rattle.json_glance.specs.Line.{json_of}
-use Rattle.edit_wire.specs.Numbers.{position_in}
+use Rattle.json_fields.specs.Numbers.{position_in}
 
 -- a whole number from 1 to 4,294,967,295
 abbrev pub count_in : Data → Option ℕ

@@ -3,9 +3,8 @@ use Rattle.std.specs.Prelude.{◌≡◌, ◌≤◌, ◌==◌, ℕ, List, length,
 use Rattle.std.specs.List.{list_all}
 use Rattle.dataset_types.specs.Tables.{TableData, row_ids, numbered}
 use Rattle.dataset_types.specs.declared.row.Marked.{Marked}
-use Rattle.sheet_commands.specs.declared.command.Command.{Command}
-use Rattle.sheet_commands.specs.declared.command.Command.TheVariants as command
 use Rattle.cell_model.specs.declared.cell.CellKind.TheVariants as cell
+use Rattle.sheet_json.specs.Plain.{IsPlainCommand}
 use Rattle.edit_wire.specs.declared.edit.Edit.{Edit}
 use Rattle.edit_wire.specs.declared.edit.EditCell.{EditCell}
 use Rattle.edit_wire.specs.declared.edit.EditCell.TheVariants as from
@@ -24,12 +23,6 @@ pub record IsPlainTable (t : TableData) : Type 0 where
   pub ordered : t.is_loose ≡ false
   pub numbers : row_ids t.rows ≡ numbered (length t.rows)
   pub certain : IsTrue (list_all (λ row. unmarked row.values) t.rows)
-
--- of the columns that are kept or sorted by, 1 to 32
-abbrev pub IsPlainCommand : Command → Type 0
-IsPlainCommand (command.KeepColumns dataset names) = (1 ≤ length names) × (length names ≤ 32)
-IsPlainCommand (command.Sort dataset by) = (1 ≤ length by) × (length by ≤ 32)
-IsPlainCommand c = Unit {0}
 
 -- a load of a file's name and types within their limits, a make cell of such a table, such a command, or any SELECT
 abbrev pub IsPlainCell : EditCell → Type 0

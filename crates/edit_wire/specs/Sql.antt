@@ -4,8 +4,8 @@ use Rattle.serde_json.specs.Data.{Data}
 use Rattle.serde_json.specs.Find.{as_str}
 use Rattle.cell_model.specs.declared.cell.CellKind.{CellKind}
 use Rattle.cell_model.specs.declared.cell.CellKind.TheVariants as cell
-use Rattle.edit_wire.specs.Json.{with_members, field}
-use Rattle.edit_wire.specs.Values.{name_in}
+use Rattle.json_fields.specs.Json.{with_members, field}
+use Rattle.json_fields.specs.Values.{name_in}
 
 -- a SELECT cell: its fields are `sql` and `into`
 unfoldable pub sql_of : Data → Option CellKind

@@ -11,10 +11,10 @@ use Rattle.edit_wire.specs.declared.edit.Edit.{Edit}
 use Rattle.edit_wire.specs.declared.edit.EditCell.{EditCell}
 use Rattle.edit_wire.specs.declared.edit.EditKind.{EditKind}
 use Rattle.edit_wire.specs.declared.edit.EditKind.TheVariants as edit
-use Rattle.edit_wire.specs.Json.{with_members, field}
+use Rattle.json_fields.specs.Json.{with_members, field}
 use Rattle.edit_wire.specs.Cells.{cell_of}
-use Rattle.edit_wire.specs.Numbers.{position_in}
-use Rattle.edit_wire.specs.Values.{name_in}
+use Rattle.json_fields.specs.Numbers.{position_in}
+use Rattle.json_fields.specs.Values.{name_in}
 
 -- the fields that an edit has, beside `edit` and `branch`, where it has no others
 

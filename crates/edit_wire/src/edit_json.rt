@@ -5,20 +5,21 @@ ghost use Rattle.serde_json.specs.View.{view, members_view};
 ghost use Rattle.edit_wire.specs.Cells.{cell_of};
 ghost use Rattle.edit_wire.specs.Plain.{IsPlainCell, IsPlainEdit, IsOneLine};
 ghost use Rattle.edit_wire.specs.Wire.{edit_on, edit_in, edit_of};
-ghost use Rattle.edit_wire.specs.Written.{IsJsonOf};
+ghost use Rattle.json_fields.specs.Written.{IsJsonOf};
 ghost use Rattle.edit_wire.specs.declared.edit.EditKind.TheVariants as kind;
 
-use crate::command_json::command_json;
 use crate::edit::{Edit, EditCell, EditKind};
 use crate::load_json::load_json;
 use crate::make_json::make_json;
 use crate::sql::sql_json;
-use crate::to_json::ToJson;
 use cell_model::CellKind;
+use json_fields::ToJson;
 use serde_json::{Map, Value as Json, put};
+use sheet_json::command_json;
 use std::alloc::Global;
 use value_types::{Bytes, Name, NoMemory};
 
+#[tactic(auto, using(crate::proofs::OtherCells::written_cell))]
 fn cell_json(alloc: Global, cell: &EditCell) -> Result<Json, NoMemory>
     requires { IsPlainCell cell.now }
     ensures { IfOk result (λ json. IsJsonOf cell_of 4 cell.now (view json)) }

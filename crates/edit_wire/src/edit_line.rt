@@ -7,16 +7,15 @@ ghost use Rattle.edit_wire.specs.EditWords.{is_edit_word};
 ghost use Rattle.edit_wire.specs.Plain.{IsPlainEdit};
 ghost use Rattle.edit_wire.specs.Wire as spec;
 
-use crate::commands::command_of;
 use crate::edit::{Edit, EditCell, EditFault, EditKind};
-use crate::from_json::{FromJson, field, has_members, text_field};
 use crate::load::load_of;
 use crate::make::make_of;
-use crate::position::position_field;
 use crate::sql::sql_of;
 use cell_model::{CellKind, EditRefusal};
+use json_fields::{FromJson, field, has_members, position_field, text_field};
 use json_glance::{Glance, glance_at, json_of};
 use serde_json::Value as Json;
+use sheet_json::command_of;
 use std::alloc::Global;
 use value_types::NoMemory;
 

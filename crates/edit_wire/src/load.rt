@@ -1,60 +1,14 @@
 //! Load cells: a file of the shelf, the types of its columns, and what repairs a field.
 ghost use Rattle.std.specs.Prelude.{◌≡◌, IfOk};
-ghost use Rattle.serde_json.specs.View.{view, items_view};
+ghost use Rattle.serde_json.specs.View.{view};
 ghost use Rattle.edit_wire.specs.Loads as spec;
 
 use crate::edit::EditCell;
-use crate::from_json::{FromJson, all_of, counted, field, field_or, has_members, text_field};
-use crate::make::type_named;
-use crate::value::words_of;
 use dataset_types::{Repair, Types};
+use json_fields::{counted, field, field_or, has_members, text_field, words_of};
 use serde_json::Value as Json;
 use std::alloc::Global;
-use value_types::{ColumnType, ListOf, Name, NoMemory, Words};
-
-impl FromJson for Option<ColumnType> {
-    ghost meaning = { spec.declared_in };
-
-    fn from_json(_alloc: Global, json: &Json) -> Result<Option<Option<ColumnType>>, NoMemory> {
-        match json.as_str() {
-            Some("guess") => Ok(Some(None)),
-            Some(word) => Ok(type_named(word).map(Some)),
-            None => Ok(None),
-        }
-    }
-}
-
-impl FromJson for Types {
-    ghost meaning = { spec.types_in };
-
-    fn from_json(alloc: Global, json: &Json) -> Result<Option<Types>, NoMemory> {
-        match json.as_array() {
-            Some(list) => types_of(alloc, list),
-            None => Ok(None),
-        }
-    }
-}
-
-impl FromJson for Repair {
-    ghost meaning = { spec.repair_in };
-
-    fn from_json(_alloc: Global, json: &Json) -> Result<Option<Repair>, NoMemory> {
-        match json.as_str() {
-            Some("null") => Ok(Some(Repair::Null)),
-            Some("zero") => Ok(Some(Repair::Zero)),
-            _ => Ok(None),
-        }
-    }
-}
-
-fn types_of(alloc: Global, list: &[Json]) -> Result<Option<Types>, NoMemory>
-    ensures { IfOk result (λ found. found ≡ spec.types_of (items_view list.now)) }
-{
-    match all_of(alloc, list)? {
-        Some(types) if types.len() <= 32 => Ok(Some(ListOf::from_vec(alloc, types)?)),
-        _ => Ok(None),
-    }
-}
+use value_types::{Name, NoMemory, Words};
 
 /// The name of a file.
 fn file_named(alloc: Global, text: &str) -> Result<Option<Words>, NoMemory>

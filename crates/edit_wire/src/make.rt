@@ -4,69 +4,14 @@ ghost use Rattle.dataset_types.specs.Tables.{Distinct, column_names, names_apart
 ghost use Rattle.serde_json.specs.View.{view, items_view};
 ghost use Rattle.edit_wire.specs.Make as spec;
 
-use crate::from_json::{FromJson, all_of, field, has_members, list_field};
-use crate::value::value_for;
 use cell_model::CellKind;
 use dataset_types::{
     Column, Columns, Marked, MarkedValues, Row, Rows, Table, TableFault, names_distinct,
 };
+use json_fields::{all_of, field, has_members, list_field, value_for};
 use serde_json::Value as Json;
 use std::alloc::Global;
-use value_types::{ArcOf, ColumnType, ListOf, Name, NoMemory, RowId};
-
-/// The type of a name.
-pub fn type_named(word: &str) -> Option<ColumnType>
-    ensures { result ≡ spec.type_named word.now }
-{
-    match word {
-        "bool" => Some(ColumnType::Bool),
-        "int" => Some(ColumnType::Int),
-        "fixed" => Some(ColumnType::Fixed),
-        "text" => Some(ColumnType::Text),
-        _ => None,
-    }
-}
-
-fn type_in(json: &Json) -> Option<ColumnType>
-    ensures { result ≡ spec.type_in (view json.now) }
-{
-    match json.as_str() {
-        Some(word) => type_named(word),
-        None => None,
-    }
-}
-
-fn column_from(alloc: Global, list: &[Json]) -> Result<Option<Column>, NoMemory>
-    ensures { IfOk result (λ found. found ≡ spec.column_from (items_view list.now)) }
-{
-    let Some((first, rest)) = list.split_first() else {
-        return Ok(None);
-    };
-    let Some((second, rest)) = rest.split_first() else {
-        return Ok(None);
-    };
-    if rest.len() > 0 {
-        return Ok(None);
-    }
-    let Some(name) = Name::from_json(alloc, first)? else {
-        return Ok(None);
-    };
-    match type_in(second) {
-        Some(kind) => Ok(Some(Column { name, kind })),
-        None => Ok(None),
-    }
-}
-
-impl FromJson for Column {
-    ghost meaning = { spec.column_in };
-
-    fn from_json(alloc: Global, json: &Json) -> Result<Option<Column>, NoMemory> {
-        match json.as_array() {
-            Some(list) => column_from(alloc, list),
-            None => Ok(None),
-        }
-    }
-}
+use value_types::{ArcOf, ListOf, NoMemory, RowId};
 
 fn names_apart(columns: &[Column]) -> bool
     ensures { result ≡ names_apart columns.now }

@@ -1,45 +1,16 @@
 //! Make cells as JSON.
-ghost use Rattle.std.specs.Prelude.{◌≡◌, Some, IfOk};
+ghost use Rattle.std.specs.Prelude.{IfOk};
 ghost use Rattle.serde_json.specs.View.{view};
 ghost use Rattle.cell_model.specs.declared.cell.CellKind.TheVariants as cell;
-ghost use Rattle.edit_wire.specs.Make.{type_named, column_in, make_of};
+ghost use Rattle.edit_wire.specs.Make.{make_of};
 ghost use Rattle.edit_wire.specs.Plain.{IsPlainTable};
-ghost use Rattle.edit_wire.specs.Written.{IsJsonOf, bare_values, values_in};
+ghost use Rattle.json_fields.specs.Written.{IsJsonOf};
 
-use crate::to_json::{ToJson, each_json};
-use dataset_types::{Column, Row, Table};
+use dataset_types::Table;
+use json_fields::{ToJson, each_json};
 use serde_json::{Value as Json, json};
 use std::alloc::Global;
-use value_types::{ColumnType, Name, NoMemory};
-
-/// The name of a type.
-pub fn type_word(kind: ColumnType) -> &'static str
-    ensures { type_named result.now ≡ Some kind }
-{
-    match kind {
-        ColumnType::Bool => "bool",
-        ColumnType::Int => "int",
-        ColumnType::Fixed => "fixed",
-        ColumnType::Text => "text",
-    }
-}
-
-impl ToJson for Column {
-    ghost says = { IsJsonOf column_in 1 };
-
-    fn to_json(&self, alloc: Global) -> Result<Json, NoMemory> {
-        let name = self.name.to_json(alloc)?;
-        Ok(json!(in alloc; [name, type_word(self.kind)])?)
-    }
-}
-
-impl ToJson for Row {
-    ghost says = { λ row. IsJsonOf bare_values 2 (values_in row) };
-
-    fn to_json(&self, alloc: Global) -> Result<Json, NoMemory> {
-        Ok(Json::Array(each_json(alloc, self.values.as_slice())?))
-    }
-}
+use value_types::{Name, NoMemory};
 
 /// The JSON of a make cell, which is read as this cell.
 ///

@@ -1,15 +1,13 @@
 //! The picks of a file.
-ghost use Rattle.std.specs.Prelude.{◌≡◌, IfOk, option_and_then};
+ghost use Rattle.std.specs.Prelude.{◌≡◌, IfOk};
 ghost use Rattle.serde_json.specs.Find.{as_bool};
 ghost use Rattle.serde_json.specs.View.{view};
-ghost use Rattle.edit_wire.specs.Json as fields;
+ghost use Rattle.json_fields.specs.Json as fields;
 ghost use Rattle.edit_wire.specs.PicksFile as spec;
 ghost use Rattle.edit_wire.specs.declared.picks.PicksFault.TheVariants.{NoMemory as Starves};
 
-use crate::from_json::has_members;
-use crate::position::position_field;
-use crate::value::value_field;
 use dataset_types::{Choice, Pick, Picks, Site};
+use json_fields::{has_members, position_field, value_field};
 use json_glance::json_of;
 use line_reader::{is_blank, split_line};
 use serde_json::Value as Json;

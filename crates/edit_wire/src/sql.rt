@@ -5,12 +5,10 @@ ghost use Rattle.cell_model.specs.declared.cell.CellKind.TheVariants as cell;
 ghost use Rattle.edit_wire.specs.Cells.{cell_of};
 ghost use Rattle.edit_wire.specs.declared.edit.EditCell.TheVariants as from;
 ghost use Rattle.edit_wire.specs.Sql as spec;
-ghost use Rattle.edit_wire.specs.Written.{IsJsonOf};
+ghost use Rattle.json_fields.specs.Written.{IsJsonOf};
 
-use crate::from_json::{field, has_members, text_field};
-use crate::to_json::ToJson;
-use crate::value::words_of;
 use cell_model::CellKind;
+use json_fields::{ToJson, field, has_members, text_field, words_of};
 use serde_json::{Value as Json, json};
 use std::alloc::Global;
 use value_types::{Name, NoMemory, Words};

@@ -2,7 +2,8 @@ use Rattle.std.proofs.Common.{◌≡◌, codes, rules}
 use Rattle.serde_json.specs.Data.{string, array, object, member, no_members}
 use Rattle.serde_json.specs.View.{view, items_view}
 use Rattle.serde_json.specs.declared.value.Value.{the_lemmas}
-use Rattle.edit_wire.proofs.Back.{types_back, load_back}
+use Rattle.json_fields.proofs.Back.{types_back}
+use Rattle.edit_wire.proofs.Back.{load_back}
 use Rattle.edit_wire.proofs.load_json.load_json.Goals as goal
 
 pub returns : goal.returns

@@ -2,7 +2,8 @@ use Rattle.std.proofs.Common.{◌≡◌, ◌∙◌, codes, rules}
 use Rattle.serde_json.specs.Data.{array, object, member, no_members}
 use Rattle.serde_json.specs.View.{view, items_view}
 use Rattle.serde_json.specs.declared.value.Value.{the_lemmas}
-use Rattle.edit_wire.proofs.Back.{columns_back, rows_back, make_back}
+use Rattle.json_fields.proofs.Back.{columns_back, rows_back}
+use Rattle.edit_wire.proofs.Back.{make_back}
 use Rattle.edit_wire.proofs.make_json.make_json.Goals as goal
 
 pub returns : goal.returns

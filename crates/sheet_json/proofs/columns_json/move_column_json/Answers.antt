@@ -1,0 +1,11 @@
+use Rattle.std.proofs.Common.{◌≡◌, ◌∙◌, ap, codes, rules}
+use Rattle.serde_json.specs.Data.{member, no_members, number, object, string, unsigned}
+use Rattle.serde_json.specs.View.{view, members_view}
+use Rattle.serde_json.proofs.Views.{view-Object}
+use Rattle.sheet_json.proofs.ColumnsBack.{move_column_back}
+use Rattle.sheet_json.proofs.columns_json.move_column_json.Goals as goal
+
+pub returns : goal.returns
+returns c =
+    let fields : members_view c.put-2.new.map.entries ≡ member (codes "at") (number (unsigned c.args.at)) (member (codes "dataset") (view c.in_ok-dataset.dataset) (member (codes "name") (view c.in_ok-name.name) (member (codes "vizual") (string (codes "move_column")) no_members))) = search rules in
+    move_column_back c.args.dataset.now c.args.name.now c.args.at _ (view c.in_ok-dataset.dataset) (view c.in_ok-name.name) c.in_ok-dataset.ensures c.in_ok-name.ensures c.ranges.at.fits (view-Object c.put-2.new.map ∙ ap object fields)
