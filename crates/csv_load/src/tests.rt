@@ -176,6 +176,15 @@ fn fields_are_read_as_their_types(rt: HostRuntime) -> Result<(), Fail> {
     gives(
         &rt,
         alloc,
+        b"i,f,b,t\n9223372036854775807,922337203685477.5808, false ,\n-9223372036854775809,-922337203685477.5809,FaLsE ,\n\t1,\"  \",\"\ttrue\",\t\n",
+        &[INT, FIXED, TRUTH, TEXT],
+        Repair::Null,
+        &none,
+        "i int f fixed b bool t text ; #1 9223372036854775807 ~null false \"\"; #2 ~null ~null false \"\"; #3 ~null null ~null \"\\t\"",
+    )?;
+    gives(
+        &rt,
+        alloc,
         b"i,f,b,t\nx,x,x,\xff\n",
         &[INT, FIXED, TRUTH, TEXT],
         Repair::Zero,

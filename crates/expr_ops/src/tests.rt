@@ -3,7 +3,8 @@
 //!
 //! What other test modules call has no contract: tests look at what they get.
 use crate::{
-    Aggregate, aggregated, binary, decides, equal, is_true, like, negated_if, null_test, unary,
+    Aggregate, aggregated, binary, binary_in_place, decides, equal, is_true, like, negated_if,
+    null_test, unary,
 };
 use cell_errors::{CellError, EvalFault};
 use expr_lang::{BinaryOp, UnaryOp};
@@ -181,6 +182,16 @@ fn null_goes_through_the_operators(rt: HostRuntime) {
         assert!(rt; is(unary(alloc, op, &Value::Null), &Value::Null));
     }
     assert!(rt; is(like(alloc, &Value::Null, &Value::Null), &Value::Null));
+}
+
+#[test]
+fn the_answer_takes_the_place_of_the_left_side(rt: HostRuntime) {
+    let alloc = rt.alloc();
+    let mut place = Value::Int(7);
+    let answer = binary_in_place(alloc, BinaryOp::Subtract, &mut place, &Value::Int(9));
+    assert!(rt; answer.is_ok() && place == Value::Int(-2));
+    let answer = binary_in_place(alloc, BinaryOp::Multiply, &mut place, &Value::Fixed(15_000));
+    assert!(rt; answer.is_ok() && place == Value::Fixed(-30_000));
 }
 
 #[test]

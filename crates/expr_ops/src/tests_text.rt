@@ -170,3 +170,41 @@ fn a_joined_text_has_at_most_65536_bytes(rt: HostRuntime) {
         Err(_) => assert!(rt; false, "no text"),
     }
 }
+
+/// A text of so many letters, with a space at each end.
+fn padded(alloc: Global, letters: u32) -> Result<Value, NoMemory> {
+    let mut words = Words::new(alloc)?;
+    words.push_char(alloc, ' ')?;
+    for _ in 0..letters {
+        words.push_char(alloc, 'a')?;
+    }
+    words.push_char(alloc, ' ')?;
+    Ok(Value::Text(words))
+}
+
+/// The length of a long text that is trimmed and cast.
+fn trimmed_length(alloc: Global) -> Result<usize, EvalFault> {
+    let trimmed = unary(alloc, UnaryOp::Trim, &padded(alloc, 65_537)?)?;
+    match cast(alloc, trimmed, ColumnType::Text)? {
+        Value::Text(words) => Ok(words.len()),
+        _ => Ok(0),
+    }
+}
+
+#[test]
+fn a_longer_text_is_no_error_of_trim_and_cast(rt: HostRuntime) {
+    let length = trimmed_length(rt.alloc());
+    assert!(rt; matches!(length, Ok(65_537)));
+}
+
+#[test]
+fn like_has_no_answer_where_a_side_is_null(rt: HostRuntime) {
+    let alloc = rt.alloc();
+    match text(alloc, "a") {
+        Ok(letter) => {
+            assert!(rt; is(like(alloc, &Value::Null, &letter), &Value::Null));
+            assert!(rt; is(like(alloc, &letter, &Value::Null), &Value::Null));
+        }
+        Err(_) => assert!(rt; false, "no memory"),
+    }
+}

@@ -163,7 +163,8 @@ fn the_last_token_of_an_expression(rt: HostRuntime) -> Result<(), Fail> {
 fn two_expressions_are_counted_apart(rt: HostRuntime) -> Result<(), Fail> {
     let mut text = String::new(rt.alloc());
     for _ in 0..2 {
-        text.push_str("print 1")?;
+        // 1,000 tokens each, and the one that merely ends it.
+        text.push_str("print -1")?;
         for _ in 0..499 {
             text.push_str("+1")?;
         }

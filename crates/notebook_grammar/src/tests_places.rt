@@ -68,7 +68,7 @@ fn nested(alloc: Global, opening: &str, levels: u32) -> Result<String, Fail> {
 #[test]
 fn every_opening_is_a_level(rt: HostRuntime) -> Result<(), Fail> {
     // With 64 of them the text ends too early or is whole, and the 65th is the place.
-    let cases: [(&str, Option<u32>, u32); 7] = [
+    let cases: [(&str, Option<u32>, u32); 10] = [
         ("(", Some(65), 64),
         ("- ", None, 128),
         ("not ", None, 256),
@@ -76,6 +76,9 @@ fn every_opening_is_a_level(rt: HostRuntime) -> Result<(), Fail> {
         ("coalesce(", Some(577), 576),
         ("caveat(", Some(449), 448),
         ("case when ", Some(641), 640),
+        ("cast(", Some(321), 320),
+        ("length(", Some(449), 448),
+        ("1 in (", Some(385), 386),
     ];
     for (opening, whole, place) in cases.iter() {
         let most = nested(rt.alloc(), opening, 64)?;
@@ -86,6 +89,32 @@ fn every_opening_is_a_level(rt: HostRuntime) -> Result<(), Fail> {
         let more = nested(rt.alloc(), opening, 65)?;
         assert_eq!(rt;
             error_of(&rt, rt.alloc(), more.as_str(), Start::Expression),
+            Some(*place)
+        );
+    }
+    Ok(())
+}
+
+#[test]
+fn every_block_is_a_level(rt: HostRuntime) -> Result<(), Fail> {
+    // With 64 of them the text ends too early, and the 65th is the place.
+    let cases: [(&str, u32, u32); 3] = [
+        ("if x {", 384, 384),
+        ("while x {", 576, 576),
+        ("for r in t {", 768, 768),
+    ];
+    for (opening, end, place) in cases.iter() {
+        let mut text = String::new(rt.alloc());
+        for _ in 0..64 {
+            text.push_str(opening)?;
+        }
+        assert_eq!(rt;
+            error_of(&rt, rt.alloc(), text.as_str(), Start::Script),
+            Some(*end)
+        );
+        text.push_str(opening)?;
+        assert_eq!(rt;
+            error_of(&rt, rt.alloc(), text.as_str(), Start::Script),
             Some(*place)
         );
     }

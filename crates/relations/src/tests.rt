@@ -2,7 +2,7 @@
 ghost use Rattle.std.specs.Prelude.{IfOk};
 ghost use Rattle.dataset_types.specs.Tables.{Distinct, row_ids};
 
-use crate::{Batch, Rel, Test, bind, test_row};
+use crate::{Batch, Rel, Test, bind, bind_more, test_row};
 use cell_errors::EvalFault;
 use dataset_types::{
     Column, Columns, Marked, MarkedValues, Picks, Row, Rows, Table, all_sure, law_of_numbers,
@@ -114,6 +114,28 @@ fn a_row_is_bound_and_tested(rt: HostRuntime) {
     assert!(rt; row.as_slice().iter().all(|binding| binding.value.marked));
     let test = tested(&rt, alloc).expect(&rt, "memory");
     assert!(rt; test.holds && !test.marked);
+}
+
+// The row, bound twice over.
+fn bound_twice(rt: &impl Abort, alloc: Global) -> Result<Bindings, EvalFault> {
+    let mut all = bound(rt, alloc)?;
+    let rel = sevens(rt, alloc)?;
+    let row = rel.rows().get(0).ok_or(NoMemory)?;
+    bind_more(
+        alloc,
+        &mut all,
+        rel.columns().as_slice(),
+        row.values.as_slice(),
+    )?;
+    Ok(all)
+}
+
+#[test]
+fn further_columns_are_bound_after_those_that_are_there(rt: HostRuntime) {
+    let alloc = rt.alloc();
+    let all = bound_twice(&rt, alloc).expect(&rt, "memory");
+    assert_eq!(rt; all.len(), 2);
+    assert!(rt; all.as_slice().iter().all(|binding| binding.value.marked));
 }
 
 fn doubted(alloc: Global) -> Result<Batch, NoMemory> {

@@ -29,7 +29,7 @@ fn a_formula_is_its_tree_or_errs_at_its_place(rt: HostRuntime) -> Result<(), Fai
         }
         _ => panic!(rt; "no sum"),
     }
-    let cases: [(&str, u32); 3] = [("", 0), ("a +", 3), ("a + ) 1", 4)];
+    let cases: [(&str, u32); 4] = [("", 0), ("a +", 3), ("a + ) 1", 4), ("a b #", 2)];
     for (text, place) in cases.iter() {
         let formula = words(rt.alloc(), text).ok().ok_or("no memory")?;
         let fault = parsed_expr(rt.alloc(), &formula).err().ok_or("no error")?;

@@ -12,6 +12,8 @@ mod notebook;
 mod place;
 #[cfg(test)]
 mod tests;
+#[cfg(test)]
+mod tests_fetch;
 mod told;
 mod version;
 

@@ -175,6 +175,18 @@ fn there_are_at_most_256_versions(rt: HostRuntime) -> Result<(), Fail> {
         answer(alloc, &mut notebook, "b", Does::Branch(1))?.as_str(),
         "TooMany"
     );
+    // What is wrong besides is told first.
+    for (branch, does, refusal) in [
+        ("b", Does::Append, "NoBranch"),
+        ("b", Does::Branch(257), "NoVersion"),
+        ("main", Does::Insert(2), "NoCell"),
+        ("main", Does::Branch(1), "BranchTaken"),
+    ] {
+        assert_eq!(rt;
+            answer(alloc, &mut notebook, branch, does)?.as_str(),
+            refusal
+        );
+    }
     assert_eq!(rt; shown(alloc, &notebook, 255)?.as_str(), "main 255");
     Ok(())
 }

@@ -9,6 +9,8 @@ mod opening;
 mod status;
 #[cfg(test)]
 mod tests;
+#[cfg(test)]
+mod tests_session;
 mod top;
 
 pub use status::Status;
