@@ -1,4 +1,4 @@
--- Rows in ascending order of key, cut where the key changes, are the groups of the keys.
+-- Rows in ascending order of key, cut where the key changes, are the lots of the keys.
 use Rattle.std.proofs.Common.{◌≡◌, Bool, true, false, ◌||◌, Option, Some, None, List, [], ◌∷◌, ◌++◌, map, cond, refl, subst, ap, ◌∙◌, sym, inl, inr, append_assoc, append-nil}
 use Rattle.std.specs.Prelude.{if◌then◌else◌}
 use Rattle.std.specs.List.{list_any}
@@ -12,7 +12,7 @@ use Rattle.value_types.specs.Same.{key_decides}
 use Rattle.relations.proofs.Gathered.{Each}
 use Rattle.rel_ops.specs.Sorted.{insert_at, inserted, sorted}
 use Rattle.rel_ops.proofs.Stable.{Rises, AtLeast, rises_sorted}
-use Rattle.rel_group.specs.declared.parts.Group.{Group}
+use Rattle.rel_group.specs.declared.parts.Lot.{Lot}
 use Rattle.rel_group.specs.declared.keyed.Keyed.{Keyed}
 use Rattle.rel_group.specs.Keys.{key_cmp, put_by, put, ascending, rows_at}
 use Rattle.rel_group.specs.Calls.{single, with_row, taken_by, taken, finished, cut_from, cut, collected, all_collected, key_lt}
@@ -20,8 +20,8 @@ use Rattle.rel_group.proofs.KeyOrder.{Key, key_exact, key_total, key_itself, Bel
 
 -- ---- the loop
 
--- the groups that are done, and then what the last one and the rest give
-unfoldable pub cut_more : List Group → Option Group → List Keyed → List Group
+-- the lots that are done, and then what the last one and the rest give
+unfoldable pub cut_more : List Lot → Option Lot → List Keyed → List Lot
 cut_more done None xs = done ++ cut xs
 cut_more done (Some g) xs = done ++ cut_from g xs
 
@@ -29,7 +29,7 @@ pub cut_begun : (xs : List Keyed) → cut xs ≡ cut_more [] None xs
 unfolding cut_more
 cut_begun xs = refl
 
-pub cut_went_on : (done : List Group) (last : Option Group) (xs rest : List Keyed) (x : Keyed) → xs ≡ x ∷ rest →
+pub cut_went_on : (done : List Lot) (last : Option Lot) (xs rest : List Keyed) (x : Keyed) → xs ≡ x ∷ rest →
     cut_more done last xs ≡ cut_more (taken done last x).0 (Some (taken done last x).1) rest
 unfolding cut_more
 cut_went_on done None xs rest x e = rw e refl
@@ -40,12 +40,12 @@ cut_went_on done (Some g) xs rest x e = rw e (on (same_key g.key x.key))
     on true = refl
     on false = rw append_assoc refl
 
-pub cut_took : (done new : List Group) (last : Option Group) (g : Group) (xs rest : List Keyed) (x : Keyed) → xs ≡ x ∷ rest → (new, g) ≡ taken done last x →
+pub cut_took : (done new : List Lot) (last : Option Lot) (g : Lot) (xs rest : List Keyed) (x : Keyed) → xs ≡ x ∷ rest → (new, g) ≡ taken done last x →
     cut_more done last xs ≡ cut_more new (Some g) rest
 cut_took done new last g xs rest x e k =
-    cut_went_on done last xs rest x e ∙ ap (λ (p : List Group × Group). cut_more p.0 (Some p.1) rest) (sym k)
+    cut_went_on done last xs rest x e ∙ ap (λ (p : List Lot × Lot). cut_more p.0 (Some p.1) rest) (sym k)
 
-pub cut_closed : (done : List Group) (last : Option Group) (xs : List Keyed) → xs ≡ [] → cut_more done last xs ≡ finished done last
+pub cut_closed : (done : List Lot) (last : Option Lot) (xs : List Keyed) → xs ≡ [] → cut_more done last xs ≡ finished done last
 unfolding cut_more
 cut_closed done None xs e = rw (e, append-nil) refl
 cut_closed done (Some g) xs e = rw e refl
@@ -57,16 +57,16 @@ pub ruleset cutting = (cut_begun, cut_took)
 abbrev pub key : Keyed → Key
 key x = x.key
 
--- two groups of one key as one
-abbrev merged : Group → Group → Group
+-- two lots of one key as one
+abbrev merged : Lot → Lot → Lot
 merged g h = record { key = g.key; sure = g.sure || h.sure; rows = g.rows ++ h.rows }
 
-abbrev joined_by : Bool → Group → Group → List Group → List Group
+abbrev joined_by : Bool → Lot → Lot → List Lot → List Lot
 joined_by true g h hs = merged g h ∷ hs
 joined_by false g h hs = g ∷ h ∷ hs
 
--- a group before others, as one with the first of them where the key is the same
-abbrev joined : Group → List Group → List Group
+-- a lot before others, as one with the first of them where the key is the same
+abbrev joined : Lot → List Lot → List Lot
 joined g [] = g ∷ []
 joined g (h ∷ hs) = joined_by (same_key g.key h.key) g h hs
 
@@ -82,14 +82,14 @@ after : {A : Type 0} (xs : List A) (y : A) (zs : List A) → (xs ++ y ∷ []) ++
 after [] y zs = refl
 after (x ∷ xs) y zs = ap (λ ws. x ∷ ws) (after xs y zs)
 
-cut_joins : (g : Group) (xs : List Keyed) → cut_from g xs ≡ joined g (cut xs)
+cut_joins : (g : Lot) (xs : List Keyed) → cut_from g xs ≡ joined g (cut xs)
 cut_joins g [] = refl
 cut_joins g (x ∷ xs) =
     ap (λ z. if same_key g.key x.key then z else g ∷ cut_from (single x) xs) (cut_joins (with_row g x) xs)
     ∙ (ap (λ z. if same_key g.key x.key then joined (with_row g x) (cut xs) else g ∷ z) (cut_joins (single x) xs)
     ∙ (at (same_key g.key x.key) refl (cut xs) ∙ ap (joined g) (sym (cut_joins (single x) xs))))
   where
-    two : (b c : Bool) (h : Group) (hs : List Group) → same_key g.key x.key ≡ b → same_key x.key h.key ≡ c →
+    two : (b c : Bool) (h : Lot) (hs : List Lot) → same_key g.key x.key ≡ b → same_key x.key h.key ≡ c →
         (if b then joined (with_row g x) (h ∷ hs) else g ∷ joined_by c (single x) h hs) ≡ joined g (joined_by c (single x) h hs)
     two true true h hs e k =
         let s = (key_decides g.key x.key).0 e in
@@ -98,12 +98,12 @@ cut_joins g (x ∷ xs) =
     two false true h hs e k = rw e refl
     two false false h hs e k = rw e refl
 
-    at : (b : Bool) → same_key g.key x.key ≡ b → (ds : List Group) → (if b then joined (with_row g x) ds else g ∷ joined (single x) ds) ≡ joined g (joined (single x) ds)
+    at : (b : Bool) → same_key g.key x.key ≡ b → (ds : List Lot) → (if b then joined (with_row g x) ds else g ∷ joined (single x) ds) ≡ joined g (joined (single x) ds)
     at true e [] = rw e refl
     at false e [] = rw e refl
     at b e (h ∷ hs) = two b (same_key x.key h.key) h hs e refl
 
--- ---- the groups of the keys, from the front
+-- ---- the lots of the keys, from the front
 
 rows_of_other : (x : Keyed) (xs : List Keyed) (k : Key) → (k ≡ x.key → ⊥) → rows_at key (x ∷ xs) k ≡ rows_at key xs k
 rows_of_other x xs k apart = ap (λ b. cond b (x ∷ rows_at key xs k) (rows_at key xs k)) (not_same k x.key apart)
@@ -187,7 +187,7 @@ cut_rising (x ∷ xs) r = cut_joins (single x) xs ∙ (ap (joined (single x)) (c
     each_of : (ys : List Keyed) → Each (AtLeast key_lt keyed_rank x) ys → NoneBefore x.key ys
     each_of ys e = e
 
--- ---- sorting leaves the groups
+-- ---- sorting leaves the lots
 
 keeps_rows : (x : Keyed) (ys : List Keyed) (k : Key) → rows_at key (inserted key_lt x ys) k ≡ rows_at key (x ∷ ys) k
 keeps_rows x [] k = refl
@@ -250,6 +250,6 @@ collected_sorted xs =
     ap (map (collected (sorted key_lt xs))) (same_ascending (map key (sorted key_lt xs)) (map key xs) (from_sorted xs) (into_sorted xs))
     ∙ same_collected (sorted key_lt xs) xs (rows_sorted xs) (ascending (map key xs))
 
--- rows that are sorted by key and cut where it changes are the groups of the keys
+-- rows that are sorted by key and cut where it changes are the lots of the keys
 pub cut_sorted : (xs : List Keyed) → cut (sorted key_lt xs) ≡ all_collected xs
 cut_sorted xs = cut_rising (sorted key_lt xs) (rises_sorted key_lt keyed_rank xs) ∙ collected_sorted xs

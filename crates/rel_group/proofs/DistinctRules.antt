@@ -10,7 +10,7 @@ use Rattle.dataset_types.proofs.TableLemmas.{distinct_one}
 use Rattle.relations.specs.declared.parts.Item.{Item}
 use Rattle.rel_ops.specs.Project.{item_names}
 use Rattle.relations.proofs.Rules.{or_parts, all_of, all_from}
-use Rattle.rel_group.specs.declared.parts.Group.{Group}
+use Rattle.rel_group.specs.Groups.{Group}
 use Rattle.rel_group.specs.Keys.{ascending, rows_at}
 use Rattle.rel_group.specs.Groups.{key_values, has_marked_key, is_uncertain, group_of, keyed_groups, certain}
 use Rattle.rel_group.specs.Group.{key_row}

@@ -26,8 +26,8 @@ use Rattle.relations.proofs.Binds.{binds_plain}
 use Rattle.relations.proofs.Gathered.{fine, all_erased}
 use Rattle.relations.proofs.Erasing.{whole_erased, batch_erased}
 use Rattle.rel_ops.specs.Project.{marked_value}
-use Rattle.rel_group.specs.declared.parts.Group.{Group}
-use Rattle.rel_group.specs.declared.parts.Tested.{Tested}
+use Rattle.rel_group.specs.Groups.{Group}
+use Rattle.rel_group.specs.Group.{Tested}
 use Rattle.rel_group.specs.Keys.{once, ascending, rows_at}
 use Rattle.rel_group.specs.Groups.{key_values, is_uncertain, bound_rows, group_of, keyed_groups, groups, may_lack_groups, key_columns, certain, group_setting, group_types}
 use Rattle.rel_group.specs.Group.{group_columns, having_test, tested, group_value, group_values, row_of, group_row, group_rows, rows_of, grouped_to, key_row}

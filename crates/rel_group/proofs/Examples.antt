@@ -12,7 +12,7 @@ use Rattle.expr_meaning.specs.declared.bindings.ScopeColumn.{ScopeColumn}
 use Rattle.expr_meaning.proofs.Readings.{M-CountAll, M-Literal}
 use Rattle.relations.specs.declared.parts.Item.{Item}
 use Rattle.relations.specs.Rels.{rel_of, whole}
-use Rattle.rel_group.specs.declared.parts.Group.{Group}
+use Rattle.rel_group.specs.Groups.{Group}
 use Rattle.rel_group.specs.Keys.{items_at, ascending}
 use Rattle.rel_group.specs.Groups.{bound_rows, groups, key_columns, group_setting, may_lack_groups}
 use Rattle.rel_group.specs.Group.{group_values, distinct}

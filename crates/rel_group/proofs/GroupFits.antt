@@ -22,7 +22,7 @@ use Rattle.relations.specs.Typed.{FitsColumns, FitsSetting}
 use Rattle.relations.proofs.TypeLaw.{row_is_bound}
 use Rattle.relations.proofs.Gathered.{Each}
 use Rattle.relations.proofs.Rules.{or_parts}
-use Rattle.rel_group.specs.declared.parts.Group.{Group}
+use Rattle.rel_group.specs.Groups.{Group}
 use Rattle.std.specs.List.{cons_option}
 use Rattle.rel_group.specs.Keys.{items_at, key_of, once_after, once, ascending, rows_at}
 use Rattle.rel_group.specs.Groups.{key_values, has_marked_key, is_certain, bound_rows, group_of, keyed_groups, whole_group, groups, may_lack_groups, certain, group_setting, group_types}

@@ -30,8 +30,8 @@ use Rattle.relations.proofs.TypeLaw.{keeps_type}
 use Rattle.relations.proofs.Gathered.{fine, the_same, then_ok, Each}
 use Rattle.relations.proofs.Rules.{HasOnly, or_parts, all_of, all_pass, all_pass_unmarked, ids_distinct}
 use Rattle.rel_ops.specs.Project.{item_names, kind_of, output_column}
-use Rattle.rel_group.specs.declared.parts.Group.{Group}
-use Rattle.rel_group.specs.declared.parts.Tested.{Tested}
+use Rattle.rel_group.specs.Groups.{Group}
+use Rattle.rel_group.specs.Group.{Tested}
 use Rattle.rel_group.specs.Groups.{is_uncertain, groups, may_lack_groups, group_setting, group_types}
 use Rattle.rel_group.specs.Group.{group_column, group_columns, having_test, tested, group_value, group_values, row_of, group_row, group_rows, rows_of}
 use Rattle.rel_group.proofs.GroupFits.{each_back, groups_fitting, groups_apart, ids_apart, groups_sure}

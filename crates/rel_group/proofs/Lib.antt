@@ -5,6 +5,7 @@ pub mod KeyOrder
 pub mod Cuts
 pub mod Natural
 pub mod KeyedGroups
+pub mod Lots
 pub mod Placed
 pub mod GroupFits
 pub mod GroupRules

@@ -27,8 +27,8 @@ use Rattle.relations.specs.Conditions.{test_of, kept}
 use Rattle.relations.specs.Typed.{FitsColumns}
 use Rattle.relations.proofs.Gathered.{fine, the_same, then_ok, Each}
 use Rattle.rel_ops.specs.Project.{output_column, marked_value}
-use Rattle.rel_group.specs.declared.parts.Group.{Group}
-use Rattle.rel_group.specs.declared.parts.Tested.{Tested}
+use Rattle.rel_group.specs.Groups.{Group}
+use Rattle.rel_group.specs.Group.{Tested}
 use Rattle.rel_group.specs.Keys.{once, ascending, rows_at}
 use Rattle.rel_group.specs.Groups.{key_values, has_marked_key, is_certain, is_uncertain, bound_rows, group_of, keyed_groups, groups, may_lack_groups, key_columns, certain, group_setting, group_types}
 use Rattle.rel_group.specs.Group.{group_column, group_columns, having_test, tested, group_value, group_values, row_of, group_row, group_rows, rows_of, grouped_to, grouped}

@@ -1,41 +1,38 @@
--- Rows put one after another into the groups of their keys make the groups of all keys.
+-- Rows put one after another into the lots of their keys make the lots of all keys.
 use Rattle.std.proofs.Common.{◌≡◌, ℕ, zero, suc, ◌+◌, ◌<◌, ◌≤◌, Bool, true, false, ◌||◌, Option, Some, None, Result, Ok, Err, OnOk, List, [], ◌∷◌, ◌++◌, map, cond, length, take, drop, get_or, set, refl, subst, ap, ◌∙◌, sym, inl, inr, append-nil, arith}
 use Rattle.std.specs.Prelude.{if◌then◌else◌, slice_get}
 use Rattle.std.specs.List.{list_any, insert}
 use Rattle.std.specs.Ordering.{is_gt}
 use Rattle.std.specs.declared.cmp.Ordering.{Ordering}
 use Rattle.std.specs.declared.cmp.Ordering.TheVariants.{Less, Equal, Greater}
-use Rattle.std.proofs.lemmas.List.{drop_more, drop_all, take_more, take_all}
+use Rattle.std.proofs.lemmas.List.{drop_more, drop_all, take_more, take_all, length-take-le}
 use Rattle.value_types.specs.Order.{same_key}
 use Rattle.value_types.specs.Same.{key_decides}
 use Rattle.dataset_types.specs.declared.row.Row.{Row}
-use Rattle.expr_meaning.specs.declared.bindings.ScopeColumn.{ScopeColumn}
 use Rattle.relations.specs.Conditions.{kept_if}
 use Rattle.relations.proofs.Gathered.{Each}
-use Rattle.rel_group.specs.declared.parts.Group.{Group}
+use Rattle.rel_group.specs.declared.parts.Lot.{Lot}
 use Rattle.rel_group.specs.declared.keyed.Keyed.{Keyed}
 use Rattle.rel_group.specs.Keys.{key_cmp, put_by, put, ascending, rows_at}
-use Rattle.rel_group.specs.Groups.{keyed_groups}
-use Rattle.rel_group.specs.Calls.{with_key, single, with_row, collected, all_collected, placed_by, placed, place_of, is_of_key, has_key}
+use Rattle.rel_group.specs.Calls.{with_key, keyed_from, all_keyed, lots_of, single, with_row, collected, all_collected, placed_by, placed, place_of, is_of_key, has_key}
 use Rattle.rel_group.proofs.KeyOrder.{Key, key_exact, Below, below_apart, above, not_same, Stands, Ascends, ascends, into_ascending, each_below, same_ascending, same_itself}
 use Rattle.rel_group.proofs.Cuts.{key, or_after, or_false, no_rows}
-use Rattle.rel_group.proofs.KeyedGroups.{groups_keyed}
 
 -- ---- the place of a key
 
-module _ (k : Key) (gs : List Group) where
-  -- the group at the place, and those behind it
-  next_group : (i : ℕ) (g : Group) → i < length gs → place_of k (drop i gs) ≡ (if is_gt (key_cmp k (get_or gs i g).key) then suc (place_of k (drop (i + 1) gs)) else 0)
-  next_group i g h = ap (place_of k) (drop_more gs i g h)
+module _ (k : Key) (gs : List Lot) where
+  -- the lot at the place, and those behind it
+  next_lot : (i : ℕ) (g : Lot) → i < length gs → place_of k (drop i gs) ≡ (if is_gt (key_cmp k (get_or gs i g).key) then suc (place_of k (drop (i + 1) gs)) else 0)
+  next_lot i g h = ap (place_of k) (drop_more gs i g h)
 
-  pub passed : (i : ℕ) (g : Group) → i < length gs → is_gt (key_cmp k (get_or gs i g).key) ≡ true → i + place_of k (drop i gs) ≡ (i + 1) + place_of k (drop (i + 1) gs)
+  pub passed : (i : ℕ) (g : Lot) → i < length gs → is_gt (key_cmp k (get_or gs i g).key) ≡ true → i + place_of k (drop i gs) ≡ (i + 1) + place_of k (drop (i + 1) gs)
   passed i g h e =
-      let n = next_group i g h ∙ ap (λ b. if b then suc (place_of k (drop (i + 1) gs)) else 0) e in
+      let n = next_lot i g h ∙ ap (λ b. if b then suc (place_of k (drop (i + 1) gs)) else 0) e in
       omega (arith, n)
 
-  pub stopped : (i : ℕ) (g : Group) → i < length gs → is_gt (key_cmp k (get_or gs i g).key) ≡ false → i + place_of k (drop i gs) ≡ i
+  pub stopped : (i : ℕ) (g : Lot) → i < length gs → is_gt (key_cmp k (get_or gs i g).key) ≡ false → i + place_of k (drop i gs) ≡ i
   stopped i g h e =
-      let n = next_group i g h ∙ ap (λ b. if b then suc (place_of k (drop (i + 1) gs)) else 0) e in
+      let n = next_lot i g h ∙ ap (λ b. if b then suc (place_of k (drop (i + 1) gs)) else 0) e in
       omega (arith, n)
 
   pub ended : (i : ℕ) → length gs ≤ i → i + place_of k (drop i gs) ≡ i
@@ -46,12 +43,12 @@ pub ruleset passing = (passed, stopped, ended)
 -- ---- a row at that place
 
 module _ (x : Keyed) where
-  is_here : (g : Group) (gs : List Group) (o : Ordering) → key_cmp x.key g.key ≡ o →
+  is_here : (g : Lot) (gs : List Lot) (o : Ordering) → key_cmp x.key g.key ≡ o →
       (place_of x.key (g ∷ gs) ≡ (if is_gt o then suc (place_of x.key gs) else 0)) × (placed (g ∷ gs) x ≡ placed_by o g gs x (placed gs x))
   is_here g gs o e = (ap (λ z. if is_gt z then suc (place_of x.key gs) else 0) e, ap (λ z. placed_by z g gs x (placed gs x)) e)
 
-  -- no group has the key, and the row begins one
-  pub placed_new : (gs : List Group) → has_key gs (place_of x.key gs) x.key ≡ false → placed gs x ≡ insert gs (place_of x.key gs) (single x)
+  -- no lot has the key, and the row begins one
+  pub placed_new : (gs : List Lot) → has_key gs (place_of x.key gs) x.key ≡ false → placed gs x ≡ insert gs (place_of x.key gs) (single x)
   placed_new [] h = refl
   placed_new (g ∷ gs) h = on (key_cmp x.key g.key) refl (placed_new gs)
     where
@@ -70,8 +67,8 @@ module _ (x : Keyed) where
           let not_there = sym (ap (λ n. has_key (g ∷ gs) n x.key) p.0) ∙ h in
           p.1 ∙ (ap (λ z. g ∷ z) (rest not_there) ∙ ap (λ n. insert (g ∷ gs) n (single x)) (sym p.0))
 
-  -- the group at the place has the key, and the row is put into it
-  pub placed_there : (gs : List Group) (d : Group) → has_key gs (place_of x.key gs) x.key ≡ true →
+  -- the lot at the place has the key, and the row is put into it
+  pub placed_there : (gs : List Lot) (d : Lot) → has_key gs (place_of x.key gs) x.key ≡ true →
       placed gs x ≡ set gs (place_of x.key gs) (with_row (get_or gs (place_of x.key gs) d) x)
   placed_there [] d h = cc
   placed_there (g ∷ gs) d h = on (key_cmp x.key g.key) refl (placed_there gs d)
@@ -89,19 +86,19 @@ module _ (x : Keyed) where
           subst (λ n. placed (g ∷ gs) x ≡ set (g ∷ gs) n (with_row (get_or (g ∷ gs) n d) x)) (sym p.0) (p.1 ∙ ap (λ z. g ∷ z) (rest there))
 
   -- what the code leaves in these two cases
-  pub put_there : (gs : List Group) (n : ℕ) (g new : Group) → n ≡ place_of x.key gs → has_key gs n x.key ≡ true → g ≡ get_or gs n g → new ≡ with_row g x →
+  pub put_there : (gs : List Lot) (n : ℕ) (g new : Lot) → n ≡ place_of x.key gs → has_key gs n x.key ≡ true → g ≡ get_or gs n g → new ≡ with_row g x →
       set gs n new ≡ placed gs x
   put_there gs n g new place there is e =
       ap (set gs n) (e ∙ ap (λ z. with_row z x) is)
       ∙ (ap (λ m. set gs m (with_row (get_or gs m g) x)) place
       ∙ sym (placed_there gs g (ap (λ m. has_key gs m x.key) (sym place) ∙ there)))
 
-  pub put_new : (gs : List Group) (n : ℕ) (new : Group) → n ≡ place_of x.key gs → has_key gs n x.key ≡ false → new ≡ single x → insert gs n new ≡ placed gs x
+  pub put_new : (gs : List Lot) (n : ℕ) (new : Lot) → n ≡ place_of x.key gs → has_key gs n x.key ≡ false → new ≡ single x → insert gs n new ≡ placed gs x
   put_new gs n new place none e =
       ap (insert gs n) e ∙ (ap (λ m. insert gs m (single x)) place ∙ sym (placed_new gs (ap (λ m. has_key gs m x.key) (sym place) ∙ none)))
 
 -- a place is within the list, or behind it
-pub place_fits : (k : Key) (gs : List Group) → place_of k gs ≤ length gs
+pub place_fits : (k : Key) (gs : List Lot) → place_of k gs ≤ length gs
 place_fits k [] = omega arith
 place_fits k (g ∷ gs) = on (is_gt (key_cmp k g.key)) (place_fits k gs)
   where
@@ -113,7 +110,7 @@ pub after_ok : {T E P Q : Type 0} (r : Result T E) → (P → Q) → OnOk r P �
 after_ok (Ok x) f p = f p
 after_ok (Err e) f p = p
 
--- ---- the groups of one row more
+-- ---- the lots of one row more
 
 module _ (x : Keyed) where
   rows_last : (xs : List Keyed) (l : Key) → rows_at key (xs ++ x ∷ []) l ≡ rows_at key xs l ++ kept_if (same_key l x.key) x
@@ -137,7 +134,7 @@ module _ (x : Keyed) where
   map_last f [] a = refl
   map_last f (b ∷ bs) a = ap (λ z. f b ∷ z) (map_last f bs a)
 
-  abbrev of_rows : List Keyed → Key → Group
+  abbrev of_rows : List Keyed → Key → Lot
   of_rows rs l = record { key = l; sure = list_any (λ y. y.certain) rs; rows = map (λ y. y.row) rs }
 
   other_key : (xs : List Keyed) (l : Key) → (l ≡ x.key → ⊥) → collected (xs ++ x ∷ []) l ≡ collected xs l
@@ -213,7 +210,7 @@ module _ (x : Keyed) where
     | inr h ↦ elim (from_last ys k h) [ inl e ↦ inl e | inr t ↦ inr (inr t) ]
   ]
 
-  -- the groups of rows and of one row more
+  -- the lots of rows and of one row more
   pub collected_last : (xs : List Keyed) → all_collected (xs ++ x ∷ []) ≡ placed (all_collected xs) x
   collected_last xs =
       ap (map (collected (xs ++ x ∷ []))) (same_ascending (map key (xs ++ x ∷ [])) (x.key ∷ map key xs) (from_last xs) (into_last xs))
@@ -221,21 +218,25 @@ module _ (x : Keyed) where
 
 -- ---- the loop over the rows
 
-module _ (columns : List ScopeColumn) (keys : Option (List ℕ)) where
-  one_more : (rows : List Row) (r : Row) → keyed_groups columns keys (rows ++ r ∷ []) ≡ placed (keyed_groups columns keys rows) (with_key columns keys r)
-  one_more rows r =
-      let x = with_key columns keys r in
-      sym (groups_keyed columns keys (rows ++ r ∷ []))
-      ∙ (ap all_collected (map_last x (with_key columns keys) rows r)
-      ∙ (collected_last x (map (with_key columns keys) rows)
-      ∙ ap (λ gs. placed gs x) (groups_keyed columns keys rows)))
+module _ (keys : Option (List ℕ)) where
+  keyed_last : (n : ℕ) (rows : List Row) (r : Row) → keyed_from keys n (rows ++ r ∷ []) ≡ keyed_from keys n rows ++ with_key keys (n + length rows) r ∷ []
+  keyed_last n [] r = let e : n ≡ n + 0 = omega arith in ap (λ m. with_key keys m r ∷ []) e
+  keyed_last n (x ∷ xs) r =
+      let e : (n + 1) + length xs ≡ n + suc (length xs) = omega arith in
+      ap (λ z. with_key keys n x ∷ z) (keyed_last (n + 1) xs r ∙ ap (λ m. keyed_from keys (n + 1) xs ++ with_key keys m r ∷ []) e)
 
   pub placed_more : (rows : List Row) (i : ℕ) (r : Row) → i < length rows → r ≡ get_or rows i r →
-      placed (keyed_groups columns keys (take i rows)) (with_key columns keys r) ≡ keyed_groups columns keys (take (i + 1) rows)
+      placed (lots_of keys (take i rows)) (with_key keys i r) ≡ lots_of keys (take (i + 1) rows)
   placed_more rows i r h e =
-      sym (one_more (take i rows) r) ∙ ap (keyed_groups columns keys) (ap (λ z. take i rows ++ z ∷ []) e ∙ sym (take_more rows i r h))
+      let before = take i rows in
+      let count : length before ≡ i = length-take-le i rows (omega (arith, h)) in
+      let place : i ≡ 0 + length before = omega (arith, count) in
+      sym (collected_last (with_key keys i r) (all_keyed keys before))
+      ∙ (ap (λ m. all_collected (all_keyed keys before ++ with_key keys m r ∷ [])) place
+      ∙ (ap all_collected (sym (keyed_last 0 before r))
+      ∙ ap (lots_of keys) (ap (λ z. before ++ z ∷ []) e ∙ sym (take_more rows i r h))))
 
-  pub all_placed : (rows : List Row) (i : ℕ) → length rows ≤ i → keyed_groups columns keys (take i rows) ≡ keyed_groups columns keys rows
-  all_placed rows i h = ap (keyed_groups columns keys) (take_all i rows h)
+  pub all_placed : (rows : List Row) (i : ℕ) → length rows ≤ i → lots_of keys (take i rows) ≡ lots_of keys rows
+  all_placed rows i h = ap (lots_of keys) (take_all i rows h)
 
 pub ruleset placing = (placed_more, all_placed)

@@ -1,9 +1,10 @@
 -- Items at places, and each place once: what a loop over the places has made so far, and then the rest.
-use Rattle.std.proofs.Common.{◌≡◌, ℕ, ◌+◌, ◌-◌, ◌<◌, ◌≤◌, length, drop, get_or, Bool, true, false, not, Option, Some, None, List, [], ◌∷◌, ◌++◌, refl, ap, subst, sym, ◌∙◌, append_assoc, append-nil, eqb-true}
+use Rattle.std.proofs.Common.{◌≡◌, ℕ, ◌+◌, ◌-◌, ◌<◌, ◌≤◌, length, drop, get_or, Bool, true, false, not, Option, Some, None, List, [], ◌∷◌, ◌++◌, map, refl, ap, subst, sym, ◌∙◌, append_assoc, append-nil, eqb-true}
 use Rattle.std.specs.Prelude.{slice_get, ◌==◌, ◌||◌}
 use Rattle.std.specs.List.{list_any}
 use Rattle.std.proofs.lemmas.List.{drop_more, drop_all}
 use Rattle.std.proofs.lemmas.List.Folds.{list_any-append}
+use Rattle.value_types.specs.declared.value.Value.{Value}
 use Rattle.dataset_types.specs.declared.row.Marked.{Marked}
 use Rattle.relations.specs.Conditions.{kept_if}
 use Rattle.std.specs.List.{cons_option}
@@ -30,6 +31,23 @@ module _ {A : Type 0} (items : List A) where
   all_placed all ps i h = ap (λ z. all ++ items_at z items) (drop_all i ps h) ∙ append-nil all
 
 pub ruleset placing = (placed_at, none_at, all_placed)
+
+-- the values of the items at places
+module _ (values : List Marked) where
+  pub value_at : (all : List Value) (ps : List ℕ) (i p : ℕ) (m : Marked) → i < length ps → p ≡ get_or ps i p → slice_get values (p - 1) ≡ Some m →
+      all ++ map (λ m. m.value) (items_at (drop i ps) values) ≡ (all ++ m.value ∷ []) ++ map (λ m. m.value) (items_at (drop (i + 1) ps) values)
+  value_at all ps i p m h e k =
+      ap (λ z. all ++ map (λ m. m.value) z) (next_places values ps i p h e ∙ ap (λ o. cons_option o (items_at (drop (i + 1) ps) values)) k) ∙ rw append_assoc refl
+
+  pub no_value_at : (all : List Value) (ps : List ℕ) (i p : ℕ) → i < length ps → p ≡ get_or ps i p → slice_get values (p - 1) ≡ None →
+      all ++ map (λ m. m.value) (items_at (drop i ps) values) ≡ all ++ map (λ m. m.value) (items_at (drop (i + 1) ps) values)
+  no_value_at all ps i p h e k =
+      ap (λ z. all ++ map (λ m. m.value) z) (next_places values ps i p h e ∙ ap (λ o. cons_option o (items_at (drop (i + 1) ps) values)) k)
+
+  pub all_read : (all : List Value) (ps : List ℕ) (i : ℕ) → length ps ≤ i → all ++ map (λ m. m.value) (items_at (drop i ps) values) ≡ all
+  all_read all ps i h = ap (λ z. all ++ map (λ m. m.value) (items_at z values)) (drop_all i ps h) ∙ append-nil all
+
+pub ruleset reading = (value_at, no_value_at, all_read)
 
 -- whether an item at one of the places is marked
 pub marked_places : (ps : List ℕ) (values : List Marked) → list_any (λ p. is_marked (slice_get values (p - 1))) ps ≡ list_any (λ m. m.marked) (items_at ps values)

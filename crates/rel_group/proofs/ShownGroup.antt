@@ -30,8 +30,8 @@ use Rattle.relations.proofs.Binds.{binds_known}
 use Rattle.relations.proofs.Gathered.{fine, the_same, then_ok, whole_ok, all_shown, sure_is, show_row, ShowsAs, Each}
 use Rattle.relations.proofs.Sames.{same_from}
 use Rattle.rel_ops.specs.Project.{marked_value, value_known, columns_in}
-use Rattle.rel_group.specs.declared.parts.Group.{Group}
-use Rattle.rel_group.specs.declared.parts.Tested.{Tested}
+use Rattle.rel_group.specs.Groups.{Group}
+use Rattle.rel_group.specs.Group.{Tested}
 use Rattle.rel_group.specs.Keys.{once}
 use Rattle.rel_group.specs.Groups.{is_uncertain, keyed_groups, groups, may_lack_groups, key_columns, certain, group_setting, group_types}
 use Rattle.rel_group.specs.Group.{group_columns, passed, having_test, tested, group_value, group_values, row_of, group_row, group_rows, rows_of, grouped_to, grouped, key_row}

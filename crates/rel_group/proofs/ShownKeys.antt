@@ -17,7 +17,7 @@ use Rattle.relations.specs.Conditions.{kept_if}
 use Rattle.relations.specs.Shown.{sure_rows, shown_rel}
 use Rattle.relations.proofs.Binds.{binds_known}
 use Rattle.relations.proofs.Rules.{or_parts}
-use Rattle.rel_group.specs.declared.parts.Group.{Group}
+use Rattle.rel_group.specs.Groups.{Group}
 use Rattle.rel_group.specs.Keys.{key_of, ascending, rows_at}
 use Rattle.rel_group.specs.Groups.{key_values, has_marked_key, is_certain, is_uncertain, bound_rows, group_of, keyed_groups, whole_group, groups, may_lack_groups}
 use Rattle.rel_group.specs.Shown.{all_known, shown_key, is_key, shown_uncertain, KnownGroup, shown_group_of, shown_keyed, shown_groups, shown_may_lack}

@@ -1,14 +1,15 @@
--- What the functions promise each other: rows with their keys, and how they are cut into groups.
-use Rattle.std.specs.Prelude.{◌≡◌, ℕ, suc, Bool, true, false, ◌||◌, if◌then◌else◌, Option, Some, None, List, [], ◌∷◌, ◌++◌, map, slice_get}
-use Rattle.std.specs.List.{list_any}
+-- What the functions promise each other: rows with their keys, and how they are put into lots, which stand for groups.
+use Rattle.std.specs.Prelude.{◌≡◌, ℕ, suc, Bool, true, false, ◌||◌, ◌+◌, if◌then◌else◌, Option, Some, None, Ok, List, [], ◌∷◌, ◌++◌, map, slice_get}
+use Rattle.std.specs.List.{list_any, filter_map}
 use Rattle.std.specs.Ordering.{is_lt, is_gt}
 use Rattle.std.specs.declared.cmp.Ordering.{Ordering}
 use Rattle.std.specs.declared.cmp.Ordering.TheVariants.{Less, Equal, Greater}
 use Rattle.value_types.specs.declared.value.Value.{Value}
+use Rattle.value_types.specs.declared.row_id.RowId.{Key}
 use Rattle.value_types.specs.Order.{same_key}
 use Rattle.dataset_types.specs.declared.row.Marked.{Marked}
 use Rattle.dataset_types.specs.declared.row.Row.{Row}
-use Rattle.cell_errors.specs.Answers.{Answer}
+use Rattle.cell_errors.specs.Answers.{Answer, and_then, collect}
 use Rattle.expr_lang.specs.declared.expr.Expr.{Expr}
 use Rattle.expr_meaning.specs.declared.bindings.ScopeColumn.{ScopeColumn}
 use Rattle.expr_meaning.specs.declared.setting.Setting.{Setting}
@@ -18,89 +19,122 @@ use Rattle.relations.specs.declared.batch.Batch.{Batch}
 use Rattle.relations.specs.declared.condition.Test.{Test}
 use Rattle.relations.specs.declared.parts.Item.{Item}
 use Rattle.relations.specs.Rels.{RelData}
-use Rattle.relations.specs.Bound.{bindings}
-use Rattle.rel_group.specs.declared.parts.Group.{Group}
-use Rattle.rel_group.specs.declared.parts.Tested.{Tested}
+use Rattle.relations.specs.Batches.{gathered}
+use Rattle.rel_group.specs.declared.parts.Lot.{Lot}
+use Rattle.rel_group.specs.declared.parts.TestedLot.{TestedLot}
 use Rattle.rel_group.specs.declared.keyed.Keyed.{Keyed}
 use Rattle.rel_group.specs.declared.query.Query.{Query}
 use Rattle.rel_group.specs.Keys.{key_cmp, ascending, rows_at}
-use Rattle.rel_group.specs.Groups.{key_values, key_columns, is_certain, is_uncertain, keyed_groups, setting_under, group_types}
-use Rattle.rel_group.specs.Group.{group_columns, condition_test, having_test, tested, group_value, group_values, group_row, group_rows, rows_of, grouped_to}
+use Rattle.rel_group.specs.Groups.{Group, key_values, key_columns, is_certain, is_uncertain, bound_rows, groups, certain, setting_under, group_types}
+use Rattle.rel_group.specs.Group.{Tested, group_columns, condition_test, having_test, group_value, group_values, group_row, rows_of, grouped_to}
 
--- a row as it is grouped
-abbrev pub with_key : List ScopeColumn → Option (List ℕ) → Row → Keyed
-with_key columns keys r = record { key = key_values keys r; certain = is_certain keys r; row = bindings columns r.values }
+-- a row as it is grouped: its place, which counts from 0, with its key
+abbrev pub with_key : Option (List ℕ) → ℕ → Row → Keyed
+with_key keys n r = record { key = key_values keys r; certain = is_certain keys r; row = n }
 
--- a group of one row
-abbrev pub single : Keyed → Group
+-- rows with their keys, the first of them at a place
+abbrev pub keyed_from : Option (List ℕ) → ℕ → List Row → List Keyed
+keyed_from keys n [] = []
+keyed_from keys n (r ∷ rs) = with_key keys n r ∷ keyed_from keys (n + 1) rs
+
+-- rows with their keys
+abbrev pub all_keyed : Option (List ℕ) → List Row → List Keyed
+all_keyed keys rows = keyed_from keys 0 rows
+
+-- a lot of one row
+abbrev pub single : Keyed → Lot
 single x = record { key = x.key; sure = x.certain; rows = x.row ∷ [] }
 
--- a group with one row more
-abbrev pub with_row : Group → Keyed → Group
+-- a lot with one row more
+abbrev pub with_row : Lot → Keyed → Lot
 with_row g x = record { key = g.key; sure = g.sure || x.certain; rows = g.rows ++ x.row ∷ [] }
 
--- the groups that are done and the last one, with one row more
-abbrev pub taken_by : Bool → List Group → Group → Keyed → List Group × Group
+-- the lots that are done and the last one, with one row more
+abbrev pub taken_by : Bool → List Lot → Lot → Keyed → List Lot × Lot
 taken_by true done g x = (done, with_row g x)
 taken_by false done g x = (done ++ g ∷ [], single x)
 
--- the groups that are done and the last one, with one row more; the first row begins a group
-abbrev pub taken : List Group → Option Group → Keyed → List Group × Group
+-- the lots that are done and the last one, with one row more; the first row begins a lot
+abbrev pub taken : List Lot → Option Lot → Keyed → List Lot × Lot
 taken done None x = (done, single x)
 taken done (Some g) x = taken_by (same_key g.key x.key) done g x
 
--- the groups that are done, and the last one after them
-abbrev pub finished : List Group → Option Group → List Group
+-- the lots that are done, and the last one after them
+abbrev pub finished : List Lot → Option Lot → List Lot
 finished done None = done
 finished done (Some g) = done ++ g ∷ []
 
--- the rows cut where the key changes, the first of them into a group that is begun
-abbrev pub cut_from : Group → List Keyed → List Group
+-- the rows cut where the key changes, the first of them into a lot that is begun
+abbrev pub cut_from : Lot → List Keyed → List Lot
 cut_from g [] = g ∷ []
 cut_from g (x ∷ xs) = if same_key g.key x.key then cut_from (with_row g x) xs else g ∷ cut_from (single x) xs
 
 -- the rows cut where the key changes
-abbrev pub cut : List Keyed → List Group
+abbrev pub cut : List Keyed → List Lot
 cut [] = []
 cut (x ∷ xs) = cut_from (single x) xs
 
--- the group of a key, of these rows
-abbrev pub collected : List Keyed → List Value → Group
+-- the lot of a key, of these rows
+abbrev pub collected : List Keyed → List Value → Lot
 collected xs k =
     let here = rows_at (λ x. x.key) xs k in record { key = k; sure = list_any (λ x. x.certain) here; rows = map (λ x. x.row) here }
 
--- a group for each key of these rows, in ascending order
-abbrev pub all_collected : List Keyed → List Group
+-- a lot for each key of these rows, in ascending order
+abbrev pub all_collected : List Keyed → List Lot
 all_collected xs = map (collected xs) (ascending (map (λ x. x.key) xs))
 
--- a group that a row comes before, is in, or comes after
-abbrev pub placed_by : Ordering → Group → List Group → Keyed → List Group → List Group
+-- a lot that a row comes before, is in, or comes after
+abbrev pub placed_by : Ordering → Lot → List Lot → Keyed → List Lot → List Lot
 placed_by Less g gs x rest = single x ∷ g ∷ gs
 placed_by Equal g gs x rest = with_row g x ∷ gs
 placed_by Greater g gs x rest = g ∷ rest
 
--- groups in ascending order with one row more, in its group or in a new one
-abbrev pub placed : List Group → Keyed → List Group
+-- lots in ascending order with one row more, in its lot or in a new one
+abbrev pub placed : List Lot → Keyed → List Lot
 placed [] x = single x ∷ []
 placed (g ∷ gs) x = placed_by (key_cmp x.key g.key) g gs x (placed gs x)
 
--- how many groups come before a key
-abbrev pub place_of : List Value → List Group → ℕ
+-- how many lots come before a key
+abbrev pub place_of : List Value → List Lot → ℕ
 place_of k [] = 0
 place_of k (g ∷ gs) = if is_gt (key_cmp k g.key) then suc (place_of k gs) else 0
 
--- whether there is a group and it has this key
-abbrev pub is_of_key : Option Group → List Value → Bool
+-- whether there is a lot and it has this key
+abbrev pub is_of_key : Option Lot → List Value → Bool
 is_of_key None k = false
 is_of_key (Some g) k = same_key g.key k
 
--- whether the group at a place, which counts from 0, has this key
-abbrev pub has_key : List Group → ℕ → List Value → Bool
+-- whether the lot at a place, which counts from 0, has this key
+abbrev pub has_key : List Lot → ℕ → List Value → Bool
 has_key gs at k = is_of_key (slice_get gs at) k
 
--- a group for each key of these rows, in ascending order
-abbrev pub AreGroups : List ScopeColumn → Option (List ℕ) → List Row → List Group → Type 0
-AreGroups columns keys rows gs = gs ≡ keyed_groups columns keys rows
+-- a lot for each key, in ascending order
+abbrev pub lots_of : Option (List ℕ) → List Row → List Lot
+lots_of keys rows = all_collected (all_keyed keys rows)
+
+-- lots for each key of these rows, in ascending order
+abbrev pub AreLots : Option (List ℕ) → List Row → List Lot → Type 0
+AreLots keys rows gs = gs ≡ lots_of keys rows
+
+-- the rows at these places, which count from 0
+abbrev pub rows_by : List Row → List ℕ → List Row
+rows_by rows places = filter_map (slice_get rows) places
+
+-- the group that a lot stands for
+abbrev pub bound_lot : List ScopeColumn → List Row → Lot → Group
+bound_lot columns rows g = record { key = g.key; sure = g.sure; rows = bound_rows columns (rows_by rows g.rows) }
+
+-- lots that stand for the groups by these places
+abbrev pub StandFor : List ℕ → List Row → List Lot → Type 0
+StandFor places rows gs = (columns : List ScopeColumn) → map (bound_lot columns rows) gs ≡ groups columns places rows
+
+-- the row of a lot with these values
+abbrev pub lot_row : Lot → List Marked → Row
+lot_row g values = record { id = Key g.key; sure = g.sure; values = values }
+
+-- the row of a lot by all columns
+abbrev pub key_lot : Lot → Row
+key_lot g = lot_row g (map certain g.key)
 
 -- the setting of a group of a query
 abbrev pub setting_in : Query → Group → MarkedSetting
@@ -115,9 +149,17 @@ is_marked (Some m) = m.marked
 abbrev pub key_lt : Keyed → Keyed → Bool
 key_lt a b = is_lt (key_cmp a.key b.key)
 
--- a query over these columns, by these places of them
-abbrev pub IsOf : Query → RelData → Type 0
-IsOf q rel = (q.columns.now ≡ key_columns rel.columns q.places.now) × (q.uncertain ≡ is_uncertain (Some q.places.now) rel)
+-- a query whose columns and doubts are those of its relation
+abbrev pub IsOf : Query → Type 0
+IsOf q = (q.columns.now ≡ key_columns q.rel.now.columns q.places.now) × (q.uncertain ≡ is_uncertain (Some q.places.now) q.rel.now)
+
+-- the group that a lot of a query stands for
+abbrev pub bound_in : Query → Lot → Group
+bound_in q = bound_lot q.rel.now.columns q.rel.now.rows
+
+-- that group with its test
+abbrev pub bound_test : Query → TestedLot → Tested
+bound_test q x = record { group = bound_in q x.lot; test = x.test }
 
 -- whether a condition is TRUE of a group
 abbrev pub condition_in : Query → Expr → Group → Answer Test
@@ -127,9 +169,9 @@ condition_in q condition g = condition_test condition q.picks.now q.cell (settin
 abbrev pub having_in : Query → Option Expr → Group → Answer Test
 having_in q having g = having_test having q.picks.now q.cell (setting_in q g)
 
--- a group with its test
-abbrev pub tested_in : Query → Option Expr → Group → Answer Tested
-tested_in q having = tested (setting_in q) having q.picks.now q.cell
+-- a lot with the test of its group
+abbrev pub tested_in : Query → Option Expr → Lot → Answer TestedLot
+tested_in q having g = and_then (having_in q having (bound_in q g)) (λ t. Ok (record { lot = g; test = t }))
 
 -- the value of an item
 abbrev pub item_in : Setting → Item → Answer Marked
@@ -143,22 +185,22 @@ items_in s items = group_values items s.picks.now s.cell (setting_of s)
 abbrev pub values_in : Query → List Item → Group → Answer (List Marked)
 values_in q items g = group_values items q.picks.now q.cell (setting_in q g)
 
--- the row of the items of a group that HAVING keeps
-abbrev pub row_in : Query → List Item → Tested → Answer Batch
-row_in q items = group_row (setting_in q) items q.picks.now q.cell
+-- the row of the items of a lot whose group HAVING keeps
+abbrev pub row_in : Query → List Item → TestedLot → Answer Batch
+row_in q items x = group_row (setting_in q) items q.picks.now q.cell (bound_test q x)
 
--- the rows of these groups
-abbrev pub group_rows_in : Query → Option Expr → List Item → List Group → Answer Batch
-group_rows_in q having items gs = group_rows (setting_in q) having items q.picks.now q.cell gs
+-- the rows of these lots: HAVING of all, and then the items of those that it keeps
+abbrev pub group_rows_in : Query → Option Expr → List Item → List Lot → Answer Batch
+group_rows_in q having items gs = and_then (collect (tested_in q having) gs) (λ ts. gathered (row_in q items) ts)
 
--- the rows of the groups of a relation
-abbrev pub rows_in : Query → RelData → Option Expr → List Item → Answer Batch
-rows_in q rel having items = rows_of rel q.places.now having items q.picks.now q.cell
+-- the rows of the groups of a query
+abbrev pub rows_in : Query → Option Expr → List Item → Answer Batch
+rows_in q having items = rows_of q.rel.now q.places.now having items q.picks.now q.cell
 
 -- the types of a query's items
-abbrev pub columns_in : Query → RelData → List Item → Answer (List ScopeColumn)
-columns_in q rel items = group_columns (group_types rel.columns q.places.now) items
+abbrev pub columns_in : Query → List Item → Answer (List ScopeColumn)
+columns_in q items = group_columns (group_types q.rel.now.columns q.places.now) items
 
 -- the rows of the groups of a query under the output columns
-abbrev pub grouped_in : Query → List ScopeColumn → RelData → Option Expr → List Item → Answer RelData
-grouped_in q columns rel having items = grouped_to columns rel q.places.now having items q.picks.now q.cell
+abbrev pub grouped_in : Query → List ScopeColumn → Option Expr → List Item → Answer RelData
+grouped_in q columns having items = grouped_to columns q.rel.now q.places.now having items q.picks.now q.cell

@@ -17,9 +17,7 @@ use Rattle.relations.specs.Rels.{RelData, rel_of, whole}
 use Rattle.relations.specs.Batches.{gathered}
 use Rattle.relations.specs.Conditions.{test_of, kept}
 use Rattle.rel_ops.specs.Project.{output_column, marked_value}
-use Rattle.rel_group.specs.declared.parts.Group.{Group}
-use Rattle.rel_group.specs.declared.parts.Tested.{Tested}
-use Rattle.rel_group.specs.Groups.{keyed_groups, groups, is_uncertain, may_lack_groups, certain, group_setting, group_types}
+use Rattle.rel_group.specs.Groups.{Group, keyed_groups, groups, is_uncertain, may_lack_groups, certain, group_setting, group_types}
 
 -- ---- output columns
 
@@ -45,6 +43,11 @@ condition_test condition picks cell s = test_of (marked_at s picks cell conditio
 abbrev pub having_test : Option Expr → List Pick → ℕ → MarkedSetting → Answer Test
 having_test None picks cell s = Ok passed
 having_test (Some condition) picks cell s = condition_test condition picks cell s
+
+-- a group, and what HAVING says of it
+pub record Tested : Type 0 where
+  pub group : Group
+  pub test : Test
 
 -- a group with its test
 abbrev pub tested : (Group → MarkedSetting) → Option Expr → List Pick → ℕ → Group → Answer Tested

@@ -10,8 +10,13 @@ use Rattle.expr_meaning.specs.Settings.{MarkedSetting}
 use Rattle.expr_meaning.specs.Types.{TypeSetting}
 use Rattle.relations.specs.Rels.{RelData}
 use Rattle.relations.specs.Bound.{bindings}
-use Rattle.rel_group.specs.declared.parts.Group.{Group}
 use Rattle.rel_group.specs.Keys.{key_of, items_at, once, ascending, rows_at}
+
+-- the rows of one key, under all columns
+pub record Group : Type 0 where
+  pub key : List Value
+  pub sure : Bool
+  pub rows : List (List Binding)
 
 -- the values of a row's key
 abbrev pub key_values : Option (List ℕ) → Row → List Value

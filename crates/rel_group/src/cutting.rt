@@ -1,17 +1,15 @@
 //! Rows sorted by key and cut where the key changes.
-ghost use Rattle.std.specs.Prelude.{◌≡◌, [], ◌∷◌, OnOk, IfOk};
+ghost use Rattle.std.specs.Prelude.{◌≡◌, [], ◌∷◌, OnOk, IfOk, take};
 ghost use Rattle.std.specs.Option.{option_copied};
 ghost use Rattle.rel_ops.specs.Sorted.{sorted};
-ghost use Rattle.rel_group.specs.Groups as spec;
-ghost use Rattle.rel_group.specs.Calls.{AreGroups, key_lt, with_row, taken, finished, cut};
-ghost use Rattle.rel_group.specs.Calls.{all_collected};
+ghost use Rattle.rel_group.specs.Calls.{AreLots, StandFor, key_lt, with_row, taken, finished, cut};
+ghost use Rattle.rel_group.specs.Calls.{all_collected, rows_by};
 
-use crate::keyed::{Keyed, bound, keyed_rows};
+use crate::keyed::{Keyed, keyed_rows};
 use crate::keys::compare_keys;
-use crate::parts::{Group, Groups};
-use crate::placing::{begin, few_groups};
+use crate::parts::{Lot, Lots};
+use crate::placing::{begin, few_lots};
 use dataset_types::Row;
-use expr_meaning::{Bindings, ScopeColumn};
 use std::alloc::Global;
 use value_types::{ListOf, NoMemory, Values};
 
@@ -22,62 +20,57 @@ fn sort_rows(rows: &mut Vec<Keyed>) -> Result<(), NoMemory>
     Ok(())
 }
 
-fn go_on(alloc: Global, group: Group, row: Keyed) -> Result<Group, NoMemory>
-    ensures { IfOk result (λ g. g ≡ with_row group row) }
+fn go_on(alloc: Global, lot: Lot, row: Keyed) -> Result<Lot, NoMemory>
+    ensures { IfOk result (λ g. g ≡ with_row lot row) }
 {
-    let Group {
+    let Lot {
         key,
         sure,
         mut rows,
-    } = group;
+    } = lot;
     rows.push(alloc, row.row)?;
-    Ok(Group {
+    Ok(Lot {
         key,
         sure: sure | row.certain,
         rows,
     })
 }
 
-/// The last group with one row more, or the group that the row begins.
-fn take_row(
-    alloc: Global,
-    done: &mut Groups,
-    last: Option<Group>,
-    row: Keyed,
-) -> Result<Group, NoMemory>
+/// The last lot with one row more, or the lot that the row begins.
+fn take_row(alloc: Global, done: &mut Lots, last: Option<Lot>, row: Keyed) -> Result<Lot, NoMemory>
     ensures { IfOk result (λ g. (done.new, g) ≡ taken done.old last row) }
 {
     match last {
         None => begin(alloc, row),
-        Some(group) => {
-            if group.key == row.key {
-                go_on(alloc, group, row)
+        Some(lot) => {
+            if lot.key == row.key {
+                go_on(alloc, lot, row)
             } else {
-                done.push(alloc, group)?;
+                done.push(alloc, lot)?;
                 begin(alloc, row)
             }
         }
     }
 }
 
-fn finish(alloc: Global, done: Groups, last: Option<Group>) -> Result<Groups, NoMemory>
+fn finish(alloc: Global, done: Lots, last: Option<Lot>) -> Result<Lots, NoMemory>
     ensures { IfOk result (λ gs. gs ≡ finished done last) }
 {
     let mut done = done;
     match last {
         None => Ok(done),
-        Some(group) => {
-            done.push(alloc, group)?;
+        Some(lot) => {
+            done.push(alloc, lot)?;
             Ok(done)
         }
     }
 }
 
 #[tactic(auto, using(crate::proofs::Cuts::cutting))]
-fn cut(alloc: Global, rows: Vec<Keyed>) -> Result<Groups, NoMemory>
+fn cut(alloc: Global, rows: Vec<Keyed>) -> Result<Lots, NoMemory>
     ensures { IfOk result (λ gs. gs ≡ cut rows.items) }
 {
-    let mut done = Groups::new(alloc)?;
+    let mut done = Lots::new(alloc)?;
     let mut last = None;
     for row in rows {
         last = Some(take_row(alloc, &mut done, last, row)?);
@@ -85,7 +78,7 @@ fn cut(alloc: Global, rows: Vec<Keyed>) -> Result<Groups, NoMemory>
     finish(alloc, done, last)
 }
 
-fn collect_rows(alloc: Global, rows: ListOf<Keyed>) -> Result<Groups, NoMemory>
+fn collect_rows(alloc: Global, rows: ListOf<Keyed>) -> Result<Lots, NoMemory>
     ensures { IfOk result (λ gs. gs ≡ all_collected rows) }
 {
     let mut rows = rows.into_vec();
@@ -93,56 +86,43 @@ fn collect_rows(alloc: Global, rows: ListOf<Keyed>) -> Result<Groups, NoMemory>
     cut(alloc, rows)
 }
 
-fn sorted_groups(
-    alloc: Global,
-    columns: &[ScopeColumn],
-    keys: Option<&[u32]>,
-    rows: &[Row],
-) -> Result<Groups, NoMemory>
-    ensures { IfOk result (AreGroups columns.now (option_copied keys.entry) rows.now) }
+fn sorted_lots(alloc: Global, keys: Option<&[u32]>, rows: &[Row]) -> Result<Lots, NoMemory>
+    ensures { IfOk result (AreLots (option_copied keys.entry) rows.now) }
 {
-    let rows = keyed_rows(alloc, columns, keys, rows)?;
+    let rows = keyed_rows(alloc, keys, rows)?;
     collect_rows(alloc, rows)
 }
 
-/// A group for each key, in ascending order.
-pub fn keyed_groups(
-    alloc: Global,
-    columns: &[ScopeColumn],
-    keys: Option<&[u32]>,
-    rows: &[Row],
-) -> Result<Groups, NoMemory>
-    ensures { IfOk result (AreGroups columns.now (option_copied keys.entry) rows.now) }
+/// A lot for each key, in ascending order.
+pub fn keyed_lots(alloc: Global, keys: Option<&[u32]>, rows: &[Row]) -> Result<Lots, NoMemory>
+    ensures { IfOk result (AreLots (option_copied keys.entry) rows.now) }
 {
-    match few_groups(alloc, columns, keys, rows)? {
-        Some(groups) => Ok(groups),
-        None => sorted_groups(alloc, columns, keys, rows),
+    match few_lots(alloc, keys, rows)? {
+        Some(lots) => Ok(lots),
+        None => sorted_lots(alloc, keys, rows),
     }
 }
 
-fn bound_rows(
-    alloc: Global,
-    columns: &[ScopeColumn],
-    rows: &[Row],
-) -> Result<ListOf<Bindings>, NoMemory>
-    ensures { IfOk result (λ all. all ≡ spec.bound_rows columns.now rows.now) }
+#[tactic(auto, using(crate::proofs::Lots::counting))]
+fn all_places(alloc: Global, rows: &[Row]) -> Result<ListOf<usize>, NoMemory>
+    ensures { IfOk result (λ places. rows_by rows.now places ≡ rows.now) }
 {
     let mut all = ListOf::new(alloc)?;
-    for row in rows {
-        all.push(alloc, bound(alloc, columns, row)?)?;
+    for i in 0..rows.len() {
+        all.push(alloc, i)?;
     }
     Ok(all)
 }
 
-fn whole_group(alloc: Global, columns: &[ScopeColumn], rows: &[Row]) -> Result<Groups, NoMemory>
-    ensures { IfOk result (λ gs. gs ≡ spec.whole_group columns.now rows.now ∷ []) }
+fn whole_lot(alloc: Global, rows: &[Row]) -> Result<Lots, NoMemory>
+    ensures { IfOk result (StandFor [] rows.now) }
 {
-    let rows = bound_rows(alloc, columns, rows)?;
-    let mut all = Groups::new(alloc)?;
+    let rows = all_places(alloc, rows)?;
+    let mut all = Lots::new(alloc)?;
     let key = Values::new(alloc)?;
     all.push(
         alloc,
-        Group {
+        Lot {
             key,
             sure: true,
             rows,
@@ -151,18 +131,13 @@ fn whole_group(alloc: Global, columns: &[ScopeColumn], rows: &[Row]) -> Result<G
     Ok(all)
 }
 
-/// The groups by these places, and without places one alone.
-pub fn groups(
-    alloc: Global,
-    columns: &[ScopeColumn],
-    places: &[u32],
-    rows: &[Row],
-) -> Result<Groups, NoMemory>
-    ensures { IfOk result (λ gs. gs ≡ spec.groups columns.now places.now rows.now) }
+/// The lots by these places, and without places one alone.
+pub fn lots(alloc: Global, places: &[u32], rows: &[Row]) -> Result<Lots, NoMemory>
+    ensures { IfOk result (StandFor places.now rows.now) }
 {
     if places.is_empty() {
-        whole_group(alloc, columns, rows)
+        whole_lot(alloc, rows)
     } else {
-        keyed_groups(alloc, columns, Some(places), rows)
+        keyed_lots(alloc, Some(places), rows)
     }
 }

@@ -10,10 +10,10 @@ ghost use Rattle.rel_group.specs.Keys.{are_places};
 ghost use Rattle.rel_group.specs.Calls.{IsOf, columns_in, group_rows_in, grouped_in, rows_in};
 
 use crate::columns::{group_columns, key_columns};
-use crate::cutting::groups;
+use crate::cutting::lots;
 use crate::having::all_tested;
 use crate::items::OfGroup;
-use crate::parts::Groups;
+use crate::parts::Lots;
 use crate::query::Query;
 use crate::uncertain::is_uncertain;
 use cell_errors::EvalFault;
@@ -28,29 +28,27 @@ fn group_rows(
     having: Option<&Expr>,
     items: &[Item],
     query: Query,
-    groups: Groups,
+    lots: Lots,
 ) -> Result<Batch, EvalFault>
     ensures { Gives result
-        (group_rows_in query.entry (option_copied having.entry) items.now groups) }
+        (group_rows_in query.entry (option_copied having.entry) items.now lots) }
 {
-    let tested = all_tested(alloc, having, groups, &query)?;
+    let tested = all_tested(alloc, having, lots, &query)?;
     let step = OfGroup { items, query };
     gather(alloc, &step, tested.as_slice())
 }
 
 fn rows_of(
     alloc: Global,
-    rel: &Rel,
     having: Option<&Expr>,
     items: &[Item],
     query: Query,
 ) -> Result<Batch, EvalFault>
-    requires query { IsOf query rel.now }
-    ensures { Gives result (rows_in query.entry rel.now (option_copied having.entry) items.now) }
+    requires query { IsOf query }
+    ensures { Gives result (rows_in query.entry (option_copied having.entry) items.now) }
 {
-    let columns = rel.columns().as_slice();
-    let groups = groups(alloc, columns, query.places, rel.rows().as_slice())?;
-    group_rows(alloc, having, items, query, groups)
+    let lots = lots(alloc, query.places, query.rel.rows().as_slice())?;
+    group_rows(alloc, having, items, query, lots)
 }
 
 fn may_lack_groups(places: &[u32], rel: &Rel) -> bool
@@ -96,32 +94,32 @@ pub fn group(
     };
     let columns = group_columns(alloc, &types, items.as_slice())?;
     let query = Query {
+        rel,
         columns: &of_key,
         places,
         uncertain: is_uncertain(Some(places), rel),
         picks,
         cell,
     };
-    group_to(alloc, rel, columns, having, items, query)
+    group_to(alloc, columns, having, items, query)
 }
 
 /// The rows of the groups under the output columns.
 fn group_to(
     alloc: Global,
-    rel: &Rel,
     columns: Scope,
     having: Option<&Expr>,
     items: &Items,
     query: Query,
 ) -> Result<Rel, EvalFault>
     requires names { Distinct (item_names items.now) }
-    requires columns { columns_in query rel.now items.now ≡ Ok columns }
-    requires query { IsOf query rel.now }
+    requires columns { columns_in query items.now ≡ Ok columns }
+    requires query { IsOf query }
     ensures { Gives result
-        (grouped_in query.entry columns rel.now (option_copied having.entry) items.now) }
+        (grouped_in query.entry columns (option_copied having.entry) items.now) }
 {
-    rel.law_of_rules();
-    let made = rows_of(alloc, rel, having, items.as_slice(), query)?;
-    let is_open = may_lack_groups(query.places, rel) | made.marked;
+    query.rel.law_of_rules();
+    let made = rows_of(alloc, having, items.as_slice(), query)?;
+    let is_open = may_lack_groups(query.places, query.rel) | made.marked;
     Rel::new(alloc, columns, made.rows, is_open, false)
 }

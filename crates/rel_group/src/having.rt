@@ -3,10 +3,11 @@ ghost use Rattle.std.specs.Prelude.{◌≡◌, IfOk, map};
 ghost use Rattle.std.specs.Option.{option_copied};
 ghost use Rattle.cell_errors.specs.Answers.{Gives, collect};
 ghost use Rattle.rel_group.specs.Groups.{certain};
-ghost use Rattle.rel_group.specs.Calls.{condition_in, having_in, setting_in, tested_in};
+ghost use Rattle.rel_group.specs.Calls.{bound_in, condition_in, having_in, setting_in, tested_in};
 
+use crate::binding::bound_lot;
 use crate::keys::once;
-use crate::parts::{Group, Groups, Tested};
+use crate::parts::{Lot, Lots, TestedLot};
 use crate::query::Query;
 use cell_errors::EvalFault;
 use dataset_types::{Marked, MarkedValues};
@@ -35,21 +36,28 @@ pub fn certain_values(alloc: Global, values: Values) -> Result<MarkedValues, NoM
 }
 
 /// The columns of the key with the values of a group's key.
-pub fn key_row(alloc: Global, query: &Query, group: &Group) -> Result<Bindings, NoMemory>
-    ensures { IfOk result (λ row. row ≡ (setting_in query.now group.now).row) }
+pub fn key_row(alloc: Global, query: &Query, lot: &Lot) -> Result<Bindings, NoMemory>
+    ensures { IfOk result (λ row. row ≡ (setting_in query.now (bound_in query.now lot.now)).row) }
 {
-    let values = once(alloc, query.places, group.key.as_slice())?;
+    let values = once(alloc, query.places, lot.key.as_slice())?;
     let values = certain_values(alloc, values)?;
     bind(alloc, query.columns.as_slice(), values.as_slice())
 }
 
-fn test_in(alloc: Global, condition: &Expr, group: &Group, query: &Query) -> Result<Test, EvalFault>
-    ensures { Gives result (condition_in query.now condition.now group.now) }
+fn test_over(
+    alloc: Global,
+    condition: &Expr,
+    lot: &Lot,
+    rows: &[Bindings],
+    query: &Query,
+) -> Result<Test, EvalFault>
+    requires { rows.now ≡ (bound_in query.now lot.now).rows }
+    ensures { Gives result (condition_in query.now condition.now (bound_in query.now lot.now)) }
 {
-    let row = key_row(alloc, query, group)?;
+    let row = key_row(alloc, query, lot)?;
     let setting = Setting {
         row: &row,
-        group: Some(group.rows.as_slice()),
+        group: Some(rows),
         marked: query.uncertain,
         picks: query.picks,
         cell: query.cell,
@@ -61,48 +69,56 @@ fn test_in(alloc: Global, condition: &Expr, group: &Group, query: &Query) -> Res
     })
 }
 
+fn test_in(alloc: Global, condition: &Expr, lot: &Lot, query: &Query) -> Result<Test, EvalFault>
+    ensures { Gives result (condition_in query.now condition.now (bound_in query.now lot.now)) }
+{
+    let rows = bound_lot(alloc, query, lot)?;
+    test_over(alloc, condition, lot, rows.as_slice(), query)
+}
+
 fn having_test(
     alloc: Global,
     having: Option<&Expr>,
-    group: &Group,
+    lot: &Lot,
     query: &Query,
 ) -> Result<Test, EvalFault>
-    ensures { Gives result (having_in query.now (option_copied having.entry) group.now) }
+    ensures { Gives result
+        (having_in query.now (option_copied having.entry) (bound_in query.now lot.now)) }
 {
     match having {
         None => Ok(Test {
             holds: true,
             marked: false,
         }),
-        Some(condition) => test_in(alloc, condition, group, query),
+        Some(condition) => test_in(alloc, condition, lot, query),
     }
 }
 
 fn tested(
     alloc: Global,
     having: Option<&Expr>,
-    group: Group,
+    lot: Lot,
     query: &Query,
-) -> Result<Tested, EvalFault>
-    ensures { Gives result (tested_in query.now (option_copied having.entry) group) }
+) -> Result<TestedLot, EvalFault>
+    ensures { Gives result (tested_in query.now (option_copied having.entry) lot) }
 {
-    let test = having_test(alloc, having, &group, query)?;
-    Ok(Tested { group, test })
+    let test = having_test(alloc, having, &lot, query)?;
+    Ok(TestedLot { lot, test })
 }
 
-/// Each group with what HAVING says of it, or the first error.
+/// Each lot with what HAVING says of it, or the first error.
 #[tactic(auto, using(crate::proofs::Looping::collecting))]
 pub fn all_tested(
     alloc: Global,
     having: Option<&Expr>,
-    groups: Groups,
+    lots: Lots,
     query: &Query,
-) -> Result<ListOf<Tested>, EvalFault>
-    ensures { Gives result (collect (tested_in query.now (option_copied having.entry)) groups) }
+) -> Result<ListOf<TestedLot>, EvalFault>
+    ensures { Gives result (collect (tested_in query.now (option_copied having.entry)) lots) }
 {
     let mut all = ListOf::new(alloc)?;
-    for group in groups.into_vec() {
-        let one = tested(alloc, having, group, query)?;
+    for lot in lots.into_vec() {
+        let one = tested(alloc, having, lot, query)?;
         all.push(alloc, one)?;
     }
     Ok(all)

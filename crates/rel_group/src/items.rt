@@ -2,16 +2,16 @@
 ghost use Rattle.std.specs.Prelude.{◌≡◌, IfOk};
 ghost use Rattle.cell_errors.specs.Answers.{Gives};
 ghost use Rattle.relations.specs.Conditions.{kept};
-ghost use Rattle.rel_group.specs.Group as spec;
 ghost use Rattle.rel_group.specs.Calls as calls;
-ghost use Rattle.rel_group.specs.Calls.{item_in, items_in};
+ghost use Rattle.rel_group.specs.Calls.{bound_in, item_in, items_in, lot_row};
 
+use crate::binding::bound_lot;
 use crate::having::key_row;
-use crate::parts::{Group, Tested};
+use crate::parts::{Lot, TestedLot};
 use crate::query::Query;
 use cell_errors::EvalFault;
 use dataset_types::{Marked, MarkedValues, Row, Rows};
-use expr_meaning::{Setting, eval_in};
+use expr_meaning::{Bindings, Setting, eval_in};
 use relations::{Batch, Item, Step, Test};
 use std::alloc::Global;
 use value_types::{NoMemory, RowId};
@@ -35,18 +35,20 @@ fn group_values(alloc: Global, items: &[Item], setting: &Setting) -> Result<Mark
     Ok(values)
 }
 
-fn values_in(
+fn values_over(
     alloc: Global,
     items: &[Item],
-    group: &Group,
+    lot: &Lot,
+    rows: &[Bindings],
     query: &Query,
 ) -> Result<MarkedValues, EvalFault>
-    ensures { Gives result (calls.values_in query.now items.now group.now) }
+    requires { rows.now ≡ (bound_in query.now lot.now).rows }
+    ensures { Gives result (calls.values_in query.now items.now (bound_in query.now lot.now)) }
 {
-    let row = key_row(alloc, query, group)?;
+    let row = key_row(alloc, query, lot)?;
     let setting = Setting {
         row: &row,
-        group: Some(group.rows.as_slice()),
+        group: Some(rows),
         marked: query.uncertain,
         picks: query.picks,
         cell: query.cell,
@@ -54,18 +56,25 @@ fn values_in(
     group_values(alloc, items, &setting)
 }
 
-fn kept_row(
+fn values_in(
     alloc: Global,
-    group: &Group,
-    values: MarkedValues,
-    test: Test,
-) -> Result<Batch, NoMemory>
-    ensures { IfOk result (λ b. b ≡ kept (spec.row_of group.now values) test) }
+    items: &[Item],
+    lot: &Lot,
+    query: &Query,
+) -> Result<MarkedValues, EvalFault>
+    ensures { Gives result (calls.values_in query.now items.now (bound_in query.now lot.now)) }
 {
-    let id = RowId::Key(group.key.copy(alloc)?);
+    let rows = bound_lot(alloc, query, lot)?;
+    values_over(alloc, items, lot, rows.as_slice(), query)
+}
+
+fn kept_row(alloc: Global, lot: &Lot, values: MarkedValues, test: Test) -> Result<Batch, NoMemory>
+    ensures { IfOk result (λ b. b ≡ kept (lot_row lot.now values) test) }
+{
+    let id = RowId::Key(lot.key.copy(alloc)?);
     let row = Row {
         id,
-        sure: group.sure,
+        sure: lot.sure,
         values,
     };
     let mut all = Batch::new(alloc)?;
@@ -80,10 +89,10 @@ pub struct OfGroup<'a> {
     pub query: Query<'a>,
 }
 
-impl Step<Tested> for OfGroup<'_> {
+impl Step<TestedLot> for OfGroup<'_> {
     ghost gives = { λ s x. calls.row_in s.query s.items.now x };
 
-    fn run(&self, alloc: Global, tested: &Tested) -> Result<Batch, EvalFault> {
+    fn run(&self, alloc: Global, tested: &TestedLot) -> Result<Batch, EvalFault> {
         if !tested.test.holds {
             let rows = Rows::new(alloc)?;
             return Ok(Batch {
@@ -91,7 +100,7 @@ impl Step<Tested> for OfGroup<'_> {
                 marked: tested.test.marked,
             });
         }
-        let values = values_in(alloc, self.items, &tested.group, &self.query)?;
-        Ok(kept_row(alloc, &tested.group, values, tested.test)?)
+        let values = values_in(alloc, self.items, &tested.lot, &self.query)?;
+        Ok(kept_row(alloc, &tested.lot, values, tested.test)?)
     }
 }

@@ -1,14 +1,12 @@
 //! Rows with their keys.
 ghost use Rattle.std.specs.Prelude.{◌≡◌, IfOk, map};
 ghost use Rattle.std.specs.Option.{option_copied};
-ghost use Rattle.std.specs.List.{list_any};
-ghost use Rattle.relations.specs.Bound.{bindings};
-ghost use Rattle.rel_group.specs.Calls.{with_key};
+ghost use Rattle.rel_group.specs.Keys.{items_at, key_of};
+ghost use Rattle.rel_group.specs.Calls.{all_keyed, with_key};
 
-use crate::keys::key_of;
-use dataset_types::{Marked, MarkedValues, Row};
-use expr_meaning::{Bindings, ScopeColumn};
-use relations::bind_more;
+use crate::keys::item_at;
+use crate::uncertain::has_marked_key;
+use dataset_types::{Marked, Row};
 use std::alloc::Global;
 use value_types::{ListOf, NoMemory, Values};
 
@@ -18,66 +16,72 @@ pub struct Keyed {
     pub key: Values,
     /// Whether it is certain that the row is in its group.
     pub certain: bool,
-    /// The row under its columns.
-    pub row: Bindings,
+    /// The place of the row, counted from 0.
+    pub row: usize,
 }
 
-fn any_marked(values: &[Marked]) -> bool
-    ensures { result ≡ list_any (λ m. m.marked) values.now }
-{
-    values.iter().any(|value| value.marked)
-}
-
-fn bare_values(alloc: Global, values: MarkedValues) -> Result<Values, NoMemory>
-    ensures { IfOk result (λ vs. vs ≡ map (λ m. m.value) values) }
+fn all_values(alloc: Global, values: &[Marked]) -> Result<Values, NoMemory>
+    ensures { IfOk result (λ vs. vs ≡ map (λ m. m.value) values.now) }
 {
     let mut all = Values::new(alloc)?;
-    for marked in values.into_vec() {
-        all.push(alloc, marked.value)?;
+    for marked in values {
+        all.push(alloc, marked.value.copy(alloc)?)?;
     }
     Ok(all)
 }
 
-/// A row under its columns, in a list without room for more.
-pub fn bound(alloc: Global, columns: &[ScopeColumn], row: &Row) -> Result<Bindings, NoMemory>
-    ensures { IfOk result (λ b. b ≡ bindings columns.now row.now.values) }
+#[tactic(auto, using(crate::proofs::Places::reading))]
+fn values_at(alloc: Global, places: &[u32], values: &[Marked]) -> Result<Values, NoMemory>
+    ensures { IfOk result (λ vs. vs ≡ map (λ m. m.value) (items_at places.now values.now)) }
 {
-    let mut all = Bindings::from_vec(alloc, Vec::with_capacity(alloc, columns.len())?)?;
-    bind_more(alloc, &mut all, columns, row.values.as_slice())?;
+    let mut all = Values::new(alloc)?;
+    for place in places {
+        if let Some(marked) = item_at(values, *place) {
+            all.push(alloc, marked.value.copy(alloc)?)?;
+        }
+    }
     Ok(all)
 }
 
-/// A row with its key.
+fn key_values(alloc: Global, keys: Option<&[u32]>, values: &[Marked]) -> Result<Values, NoMemory>
+    ensures { IfOk result
+        (λ vs. vs ≡ map (λ m. m.value) (key_of (option_copied keys.entry) values.now)) }
+{
+    match keys {
+        None => all_values(alloc, values),
+        Some(places) => values_at(alloc, places, values),
+    }
+}
+
+/// The row at a place with its key.
 pub fn with_key(
     alloc: Global,
-    columns: &[ScopeColumn],
     keys: Option<&[u32]>,
+    at: usize,
     row: &Row,
 ) -> Result<Keyed, NoMemory>
-    ensures { IfOk result (λ x. x ≡ with_key columns.now (option_copied keys.entry) row.now) }
+    ensures { IfOk result (λ x. x ≡ with_key (option_copied keys.entry) at row.now) }
 {
-    let key = key_of(alloc, keys, &row.values)?;
-    let certain = row.sure & !any_marked(key.as_slice());
+    let certain = row.sure & !has_marked_key(keys, row);
     Ok(Keyed {
-        key: bare_values(alloc, key)?,
+        key: key_values(alloc, keys, row.values.as_slice())?,
         certain,
-        row: bound(alloc, columns, row)?,
+        row: at,
     })
 }
 
 /// The rows with their keys, in their order.
+#[tactic(auto, using(crate::proofs::KeyedGroups::keying))]
 pub fn keyed_rows(
     alloc: Global,
-    columns: &[ScopeColumn],
     keys: Option<&[u32]>,
     rows: &[Row],
 ) -> Result<ListOf<Keyed>, NoMemory>
-    ensures { IfOk result
-        (λ xs. xs ≡ map (with_key columns.now (option_copied keys.entry)) rows.now) }
+    ensures { IfOk result (λ xs. xs ≡ all_keyed (option_copied keys.entry) rows.now) }
 {
     let mut all = ListOf::new(alloc)?;
-    for row in rows {
-        all.push(alloc, with_key(alloc, columns, keys, row)?)?;
+    for i in 0..rows.len() {
+        all.push(alloc, with_key(alloc, keys, i, &rows[i])?)?;
     }
     Ok(all)
 }

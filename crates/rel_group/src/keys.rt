@@ -4,9 +4,8 @@ ghost use Rattle.std.specs.Option.{option_copied};
 ghost use Rattle.std.specs.List.{list_any};
 ghost use Rattle.relations.specs.Conditions.{kept_if};
 ghost use Rattle.rel_group.specs.Keys as spec;
-ghost use Rattle.rel_group.specs.Keys.{is_place, items_at, key_cmp, key_of, once};
+ghost use Rattle.rel_group.specs.Keys.{is_place, items_at, key_cmp, once};
 
-use dataset_types::MarkedValues;
 use relations::{ColumnRefs, Rel};
 use std::alloc::Global;
 use std::cmp::Ordering;
@@ -46,20 +45,6 @@ pub fn items_at<T: Copied + Drop>(
         }
     }
     Ok(all)
-}
-
-/// The values of a key: those at its places, or all.
-pub fn key_of(
-    alloc: Global,
-    keys: Option<&[u32]>,
-    values: &MarkedValues,
-) -> Result<MarkedValues, NoMemory>
-    ensures { IfOk result (λ k. k ≡ key_of (option_copied keys.entry) values.now) }
-{
-    match keys {
-        None => values.copy(alloc),
-        Some(places) => items_at(alloc, places, values.as_slice()),
-    }
 }
 
 /// By the first value that differs.

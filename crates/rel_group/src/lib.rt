@@ -5,6 +5,7 @@
 //! `specs/Shown.antt` what they make of what is shown; `laws.rt` says how the three belong together.
 #![tactic(auto)]
 
+mod binding;
 mod columns;
 mod cutting;
 mod distinct_rows;
@@ -19,6 +20,8 @@ mod placing;
 mod query;
 #[cfg(test)]
 mod tests;
+#[cfg(test)]
+mod tests_marks;
 mod uncertain;
 
 pub use distinct_rows::distinct;

@@ -1,24 +1,23 @@
-//! Groups, and groups that HAVING has looked at.
-use expr_meaning::Bindings;
+//! Groups by the places of their rows, and groups that HAVING has looked at.
 use relations::Test;
 use value_types::{ListOf, Values};
 
 /// The rows of one key.
 #[derive(Drop)]
-pub struct Group {
+pub struct Lot {
     pub key: Values,
     /// Whether it is certain that a row is in it.
     pub sure: bool,
-    /// Its rows, under all columns.
-    pub rows: ListOf<Bindings>,
+    /// The places of its rows among those of the relation, counted from 0.
+    pub rows: ListOf<usize>,
 }
 
-/// Groups in ascending order of key.
-pub type Groups = ListOf<Group>;
+/// Lots in ascending order of key.
+pub type Lots = ListOf<Lot>;
 
-/// A group, and what HAVING says of it.
+/// A lot, and what HAVING says of it.
 #[derive(Drop)]
-pub struct Tested {
-    pub group: Group,
+pub struct TestedLot {
+    pub lot: Lot,
     pub test: Test,
 }

@@ -1,10 +1,13 @@
 //! What is the same for all groups of a query.
 use dataset_types::Picks;
 use expr_meaning::Scope;
+use relations::Rel;
 
 /// What HAVING and the items are told beside the group.
 #[derive(Clone, Copy)]
 pub struct Query<'a> {
+    /// The relation that is grouped.
+    pub rel: &'a Rel,
     /// The columns of the key, each once.
     pub columns: &'a Scope,
     /// The places of the key.

@@ -22,11 +22,11 @@ use value_types::{
 /// a, whether it is marked, and b.
 type Cells = (Option<i64>, bool, Option<i64>);
 
-fn named(text: &str) -> Result<Name, NoMemory> {
+pub(crate) fn named(text: &str) -> Result<Name, NoMemory> {
     read_name(text.as_bytes()).ok_or(NoMemory)
 }
 
-fn columns(alloc: Global) -> Result<Columns, NoMemory> {
+pub(crate) fn columns(alloc: Global) -> Result<Columns, NoMemory> {
     let mut columns = Columns::new(alloc)?;
     for name in ["a", "b"] {
         let name = named(name)?;
@@ -36,7 +36,7 @@ fn columns(alloc: Global) -> Result<Columns, NoMemory> {
     Ok(columns)
 }
 
-fn int_or_null(n: Option<i64>, marked: bool) -> Marked {
+pub(crate) fn int_or_null(n: Option<i64>, marked: bool) -> Marked {
     let value = match n {
         None => Value::Null,
         Some(n) => Value::Int(n),
@@ -95,7 +95,12 @@ fn rows_of(alloc: Global, cells: &[Cells]) -> Result<Rows, NoMemory>
     }
 }
 
-fn rel(rt: &impl Abort, alloc: Global, cells: &[Cells], is_open: bool) -> Result<Rel, EvalFault> {
+pub(crate) fn rel(
+    rt: &impl Abort,
+    alloc: Global,
+    cells: &[Cells],
+    is_open: bool,
+) -> Result<Rel, EvalFault> {
     let columns = columns(alloc)?;
     let rows = rows_of(alloc, cells)?;
     assert!(rt; names_distinct(columns.as_slice()));
@@ -136,31 +141,31 @@ fn line_of(alloc: Global, answer: &Result<Rel, EvalFault>) -> Result<Words, NoMe
     Ok(out)
 }
 
-fn gives(alloc: Global, answer: &Result<Rel, EvalFault>, want: &str) -> bool {
+pub(crate) fn gives(alloc: Global, answer: &Result<Rel, EvalFault>, want: &str) -> bool {
     match line_of(alloc, answer) {
         Ok(line) => line.as_text() == want,
         Err(_) => false,
     }
 }
 
-fn int(n: i64) -> Expr {
+pub(crate) fn int(n: i64) -> Expr {
     Expr::Literal(Value::Int(n))
 }
 
-fn column(name: &str) -> Result<Expr, NoMemory> {
+pub(crate) fn column(name: &str) -> Result<Expr, NoMemory> {
     Ok(Expr::Column {
         qualifier: None,
         name: named(name)?,
     })
 }
 
-fn binary(alloc: Global, op: BinaryOp, a: Expr, b: Expr) -> Result<Expr, NoMemory> {
+pub(crate) fn binary(alloc: Global, op: BinaryOp, a: Expr, b: Expr) -> Result<Expr, NoMemory> {
     let a = Boxed::new(alloc, a)?;
     Ok(Expr::Binary(op, a, Boxed::new(alloc, b)?))
 }
 
 /// The sum of b.
-fn sum(alloc: Global) -> Result<Expr, NoMemory> {
+pub(crate) fn sum(alloc: Global) -> Result<Expr, NoMemory> {
     Ok(Expr::Sum(Boxed::new(alloc, column("b")?)?))
 }
 
@@ -183,7 +188,7 @@ fn places(alloc: Global, keys: &[u32]) -> Result<ColumnRefs, NoMemory> {
 }
 
 /// One item over groups by these places.
-fn grouped(
+pub(crate) fn grouped(
     rt: &impl Abort,
     alloc: Global,
     rel: Result<Rel, EvalFault>,
@@ -299,7 +304,7 @@ const GUESSED: [Cells; 3] = [
     (Some(2), true, Some(1)),
 ];
 
-fn distinct_of(alloc: Global, rel: Result<Rel, EvalFault>) -> Result<Rel, EvalFault> {
+pub(crate) fn distinct_of(alloc: Global, rel: Result<Rel, EvalFault>) -> Result<Rel, EvalFault> {
     distinct(alloc, &rel?)
 }
 
@@ -352,7 +357,11 @@ fn one_over_a(alloc: Global) -> Result<Expr, NoMemory> {
     binary(alloc, BinaryOp::Divide, int(1), column("a")?)
 }
 
-fn divided(rt: &impl Abort, alloc: Global, having: Option<&Expr>) -> Result<Rel, EvalFault> {
+pub(crate) fn divided(
+    rt: &impl Abort,
+    alloc: Global,
+    having: Option<&Expr>,
+) -> Result<Rel, EvalFault> {
     let cells = [
         (Some(1), false, Some(1)),
         (Some(0), false, Some(1)),

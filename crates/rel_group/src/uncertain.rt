@@ -31,7 +31,8 @@ fn any_marked_at(places: &[u32], values: &[Marked]) -> bool
     any_place_marked(places, values)
 }
 
-fn has_marked_key(keys: Option<&[u32]>, row: &Row) -> bool
+/// Whether a value of its key is marked.
+pub fn has_marked_key(keys: Option<&[u32]>, row: &Row) -> bool
     ensures { result ≡ spec.has_marked_key (option_copied keys.entry) row.now }
 {
     let values = row.values.as_slice();

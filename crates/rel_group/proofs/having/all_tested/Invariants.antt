@@ -6,9 +6,9 @@ use Rattle.rel_ops.proofs.Collecting.{rest_of}
 use Rattle.rel_group.specs.Calls.{tested_in}
 use Rattle.rel_group.proofs.having.all_tested.Given as goal
 
-abbrev pub invariant-loop-group : goal.invariant-loop-group
-invariant-loop-group l =
-    (goal.iterator-loop-group).can_next l.group-iterator ×
-    (goal.iterator-loop-group).is_finite l.group-iterator ×
-    (collect (tested_in l.query (option_copied l.having)) l.fn.groups
-    ≡ rest_of l.all (tested_in l.query (option_copied l.having)) (into_iter_items l.group-iterator))
+abbrev pub invariant-loop-lot : goal.invariant-loop-lot
+invariant-loop-lot l =
+    (goal.iterator-loop-lot).can_next l.lot-iterator ×
+    (goal.iterator-loop-lot).is_finite l.lot-iterator ×
+    (collect (tested_in l.query (option_copied l.having)) l.fn.lots
+    ≡ rest_of l.all (tested_in l.query (option_copied l.having)) (into_iter_items l.lot-iterator))

@@ -11,11 +11,11 @@ pub returns-then-has_key : goal.returns-then-has_key
 returns-then-has_key c =
     let place = rw (c.as_slice.ensures.value, c.as_slice-2.ensures) at c.place_of-at.ensures in
     let there = rw c.as_slice-3.ensures.value at (sym c.has_key.ensures ∙ c.if-has_key.true) in
-    after_ok c.add_row.result (λ e. put_there c.args.row c.args.groups.now.items c.place_of-at.result c.index_mut.result.now c.add_row.new.group place there c.index_mut.ensures.value e)
+    after_ok c.add_row.result (λ e. put_there c.args.row c.args.lots.now.items c.place_of-at.result c.index_mut.result.now c.add_row.new.lot place there c.index_mut.ensures.value e)
     c.add_row.ensures
 
 pub returns-in_ok-insert : goal.returns-in_ok-insert
 returns-in_ok-insert c =
     let place = rw (c.as_slice.ensures.value, c.as_slice-2.ensures) at c.place_of-at.ensures in
     let none = rw c.as_slice-3.ensures.value at (sym c.has_key.ensures ∙ c.if-has_key.false) in
-    c.in_ok-insert.ensures.items ∙ put_new c.args.row c.args.groups.now.items c.place_of-at.result c.in_ok-group.group place none c.in_ok-group.ensures
+    c.in_ok-insert.ensures.items ∙ put_new c.args.row c.args.lots.now.items c.place_of-at.result c.in_ok-lot.lot place none c.in_ok-lot.ensures
