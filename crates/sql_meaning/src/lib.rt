@@ -15,6 +15,14 @@ mod source;
 mod tables;
 #[cfg(test)]
 mod tests;
+#[cfg(test)]
+mod tests_errors;
+#[cfg(test)]
+mod tests_marks;
+#[cfg(test)]
+mod tests_picks;
+#[cfg(test)]
+mod tests_wide;
 
 pub use laws::law_of_select;
 pub use run::run_select;

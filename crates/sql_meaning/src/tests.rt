@@ -18,7 +18,7 @@ use value_types::{
     ArcOf, ColumnType, Name, NoMemory, RowId, Value, Words, id_text, literal_text, read_name,
 };
 
-fn named(text: &str) -> Result<Name, NoMemory> {
+pub fn named(text: &str) -> Result<Name, NoMemory> {
     read_name(text.as_bytes()).ok_or(NoMemory)
 }
 
@@ -31,7 +31,7 @@ fn columns(alloc: Global, list: &[(&str, ColumnType)]) -> Result<Columns, NoMemo
     Ok(columns)
 }
 
-fn plain(value: Value) -> Marked {
+pub fn plain(value: Value) -> Marked {
     Marked {
         value,
         marked: false,
@@ -50,7 +50,7 @@ fn price_values(alloc: Global, id: i64, price: Marked) -> Result<MarkedValues, N
     Ok(values)
 }
 
-fn one_row(alloc: Global, values: MarkedValues) -> Result<Rows, NoMemory>
+pub fn one_row(alloc: Global, values: MarkedValues) -> Result<Rows, NoMemory>
     ensures { IfOk result (λ rows. Distinct (row_ids rows)) }
 {
     let mut rows = Rows::new(alloc)?;
@@ -74,7 +74,7 @@ fn two_rows(alloc: Global, first: MarkedValues, second: MarkedValues) -> Result<
     Ok(rows)
 }
 
-fn table(
+pub fn table(
     rt: &impl Abort,
     alloc: Global,
     columns: Columns,
@@ -92,7 +92,7 @@ fn table(
     }
 }
 
-fn add(
+pub fn add(
     alloc: Global,
     env: &mut Env,
     name: &str,
@@ -103,7 +103,7 @@ fn add(
     env.set(alloc, named(name)?, Slot { table, doubt })
 }
 
-fn datasets(rt: &impl Abort, alloc: Global) -> Result<Env, NoMemory> {
+pub fn datasets(rt: &impl Abort, alloc: Global) -> Result<Env, NoMemory> {
     let prices = [("id", ColumnType::Int), ("price", ColumnType::Fixed)];
     let ids = [("id", ColumnType::Int)];
     let unread = Marked {
@@ -150,13 +150,16 @@ fn error_name(error: CellError) -> &'static str {
     match error {
         CellError::NoDataset => "NoDataset",
         CellError::NoColumn => "NoColumn",
+        CellError::NameTaken => "NameTaken",
+        CellError::TypeFault => "TypeFault",
         CellError::ZeroDivisor => "ZeroDivisor",
+        CellError::BadCast => "BadCast",
         CellError::TooLarge => "TooLarge",
         _ => "another error",
     }
 }
 
-fn line_of(alloc: Global, env: &Env, text: &str) -> Result<Words, NoMemory> {
+fn line_of(alloc: Global, env: &Env, text: &str, picks: &Picks) -> Result<Words, NoMemory> {
     let mut out = Words::new(alloc)?;
     if text.len() >= 65_536 {
         return Ok(out);
@@ -166,7 +169,7 @@ fn line_of(alloc: Global, env: &Env, text: &str) -> Result<Words, NoMemory> {
         Err(_) => return Ok(out),
     };
     let mut reads = EnvReads::new(alloc, env)?;
-    match run_select(alloc, &select, 1, &Picks::new(alloc)?, &mut reads) {
+    match run_select(alloc, &select, 1, picks, &mut reads) {
         Ok(slot) => push_slot(alloc, &mut out, &slot)?,
         Err(WorkFault::Error(error)) => out.push_text(alloc, error_name(error))?,
         Err(WorkFault::Ended(_)) => return Err(NoMemory),
@@ -174,9 +177,18 @@ fn line_of(alloc: Global, env: &Env, text: &str) -> Result<Words, NoMemory> {
     Ok(out)
 }
 
-fn gives(alloc: Global, env: &Env, text: &str, want: &str) -> bool {
-    match line_of(alloc, env, text) {
+/// Whether the text gives this line in cell 1, under these picks.
+pub fn gives_under(alloc: Global, env: &Env, text: &str, picks: &Picks, want: &str) -> bool {
+    match line_of(alloc, env, text, picks) {
         Ok(line) => line.as_text() == want,
+        Err(_) => false,
+    }
+}
+
+/// Whether the text gives this line in a cell without picks.
+pub fn gives(alloc: Global, env: &Env, text: &str, want: &str) -> bool {
+    match Picks::new(alloc) {
+        Ok(picks) => gives_under(alloc, env, text, &picks, want),
         Err(_) => false,
     }
 }
