@@ -12,7 +12,15 @@ mod renaming;
 #[cfg(test)]
 mod tests;
 #[cfg(test)]
+mod tests_commands;
+#[cfg(test)]
 mod tests_doubt;
+#[cfg(test)]
+mod tests_errors;
+#[cfg(test)]
+mod tests_marks;
+#[cfg(test)]
+mod tests_shown;
 
 pub use applying::apply;
 pub use laws::law_of_commands;

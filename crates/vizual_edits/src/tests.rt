@@ -1,25 +1,16 @@
-//! Commands over an environment of two datasets without columns and rows: `t`, and `u` in doubt. What a command writes is shown as
-//! one line, and after it the names that it read.
+//! Commands over an environment of two datasets without columns and rows: `t`, and `u` in doubt; whether there is a dataset `x` is in
+//! doubt too, and there is none. What a command writes is shown as one line, and after it the names that it read.
 //!
 //! What other test modules call has no contract: tests look at what they get.
 use crate::apply;
+use crate::tests_commands::{copy, drop, insert_column, insert_row, named, rename};
 use cell_errors::CellError;
 use cell_model::{EnvReads, Reads, WorkFault, Writes};
 use dataset_types::{Columns, Env, Named, Picks, Rows, Slot, Table};
 use sheet_commands::Command;
 use std::alloc::Global;
 use std::test::*;
-use value_types::{ArcOf, ColumnType, Name, NoMemory, Words, read_name};
-
-pub(crate) fn named(text: &str) -> Result<Name, NoMemory> {
-    read_name(text.as_bytes()).ok_or(NoMemory)
-}
-
-pub(crate) fn words(alloc: Global, text: &str) -> Result<Words, NoMemory> {
-    let mut all = Words::new(alloc)?;
-    all.push_text(alloc, text)?;
-    Ok(all)
-}
+use value_types::{ArcOf, NoMemory, Words};
 
 fn table(alloc: Global) -> Result<ArcOf<Table>, NoMemory> {
     let columns = Columns::new(alloc)?;
@@ -38,6 +29,11 @@ pub(crate) fn env(alloc: Global) -> Result<Env, NoMemory> {
         };
         env.set(alloc, named(name)?, slot)?;
     }
+    let none = Slot {
+        table: None,
+        doubt: true,
+    };
+    env.set(alloc, named("x")?, none)?;
     Ok(env)
 }
 
@@ -57,6 +53,7 @@ fn name_of(fault: &WorkFault) -> &'static str {
         WorkFault::Error(CellError::Syntax { at: 3 }) => "Syntax at 3; ",
         WorkFault::Error(CellError::NoDataset) => "NoDataset; ",
         WorkFault::Error(CellError::NoColumn) => "NoColumn; ",
+        WorkFault::Error(CellError::NoRow) => "NoRow; ",
         WorkFault::Error(CellError::NameTaken) => "NameTaken; ",
         _ => "another fault; ",
     }
@@ -90,7 +87,7 @@ fn line_of(alloc: Global, command: &Command) -> Result<Words, NoMemory> {
     Ok(out)
 }
 
-fn gives(alloc: Global, command: Result<Command, NoMemory>, want: &str) -> bool {
+pub(crate) fn gives(alloc: Global, command: Result<Command, NoMemory>, want: &str) -> bool {
     match command {
         Ok(command) => match line_of(alloc, &command) {
             Ok(line) => line.as_text() == want,
@@ -100,73 +97,30 @@ fn gives(alloc: Global, command: Result<Command, NoMemory>, want: &str) -> bool 
     }
 }
 
-pub(crate) fn rename(dataset: &str, to: &str) -> Result<Command, NoMemory> {
-    let dataset = named(dataset)?;
-    let to = named(to)?;
-    Ok(Command::RenameDataset { dataset, to })
-}
-
-pub(crate) fn copy(dataset: &str, to: &str) -> Result<Command, NoMemory> {
-    let dataset = named(dataset)?;
-    let to = named(to)?;
-    Ok(Command::CopyDataset { dataset, to })
-}
-
-pub(crate) fn drop(dataset: &str) -> Result<Command, NoMemory> {
-    let dataset = named(dataset)?;
-    Ok(Command::DropDataset { dataset })
-}
-
 #[test]
 fn datasets_are_renamed_copied_and_dropped(rt: HostRuntime) {
     let alloc = rt.alloc();
     assert!(rt; gives(alloc, rename("t", "v"), "v empty; t none; tv"));
     assert!(rt; gives(alloc, rename("u", "v"), "?v empty; u none; uv"));
-    assert!(rt; gives(alloc, rename("t", "u"), "NameTaken; tu"));
-    assert!(rt; gives(alloc, rename("t", "t"), "NameTaken; t"));
-    assert!(rt; gives(alloc, rename("w", "t"), "NoDataset; w"));
+    assert!(rt; gives(alloc, copy("t", "v"), "v empty; tv"));
     assert!(rt; gives(alloc, copy("u", "v"), "?v empty; uv"));
+    assert!(rt; gives(alloc, drop("t"), "t none; t"));
     assert!(rt; gives(alloc, drop("u"), "u none; u"));
 }
 
-fn formula(alloc: Global, dataset: &str, text: &str) -> Result<Command, NoMemory> {
-    let dataset = named(dataset)?;
-    let column = named("a")?;
-    let text = words(alloc, text)?;
-    Ok(Command::Formula {
-        dataset,
-        column,
-        text,
-    })
-}
-
-fn insert_column(dataset: &str) -> Result<Command, NoMemory> {
-    let dataset = named(dataset)?;
-    let name = named("a")?;
-    Ok(Command::InsertColumn {
-        dataset,
-        name,
-        kind: ColumnType::Int,
-        at: 1,
-    })
-}
-
-fn insert_row(dataset: &str) -> Result<Command, NoMemory> {
-    let dataset = named(dataset)?;
-    let row = named("z")?;
-    Ok(Command::InsertRow {
-        dataset,
-        row,
-        after: None,
-    })
+// The doubt of what was there before goes.
+#[test]
+fn a_name_without_a_dataset_is_free_also_in_doubt(rt: HostRuntime) {
+    let alloc = rt.alloc();
+    assert!(rt; gives(alloc, rename("t", "x"), "x empty; t none; tx"));
+    assert!(rt; gives(alloc, rename("u", "x"), "?x empty; u none; ux"));
+    assert!(rt; gives(alloc, copy("t", "x"), "x empty; tx"));
+    assert!(rt; gives(alloc, copy("u", "x"), "?x empty; ux"));
 }
 
 #[test]
 fn datasets_are_changed_where_they_are(rt: HostRuntime) {
     let alloc = rt.alloc();
-    assert!(rt; gives(alloc, insert_column("u"), "?u one column; u"));
-    assert!(rt; gives(alloc, insert_row("t"), "t one row; t"));
-    assert!(rt; gives(alloc, formula(alloc, "t", "1"), "NoColumn; t"));
-    assert!(rt; gives(alloc, formula(alloc, "w", "1"), "NoDataset; w"));
-    assert!(rt; gives(alloc, formula(alloc, "w", "1 +"), "Syntax at 3; "));
+    assert!(rt; gives(alloc, insert_column("u", "a", 1), "?u one column; u"));
+    assert!(rt; gives(alloc, insert_row(alloc, "t", "z", ""), "t one row; t"));
 }
