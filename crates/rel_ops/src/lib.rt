@@ -12,6 +12,8 @@ mod projecting;
 mod sorting;
 #[cfg(test)]
 mod tests;
+#[cfg(test)]
+mod tests_marks;
 mod uniting;
 
 pub use filtering::filter;

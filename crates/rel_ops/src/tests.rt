@@ -23,7 +23,7 @@ fn named(text: &str) -> Result<Name, NoMemory> {
     read_name(text.as_bytes()).ok_or(NoMemory)
 }
 
-fn columns(alloc: Global) -> Result<Columns, NoMemory> {
+pub(crate) fn columns(alloc: Global) -> Result<Columns, NoMemory> {
     let mut columns = Columns::new(alloc)?;
     for (name, kind) in [("id", ColumnType::Int), ("price", ColumnType::Fixed)] {
         let name = named(name)?;
@@ -32,7 +32,12 @@ fn columns(alloc: Global) -> Result<Columns, NoMemory> {
     Ok(columns)
 }
 
-fn values(alloc: Global, id: i64, price: Value, marked: bool) -> Result<MarkedValues, NoMemory> {
+pub(crate) fn values(
+    alloc: Global,
+    id: i64,
+    price: Value,
+    marked: bool,
+) -> Result<MarkedValues, NoMemory> {
     let mut values = MarkedValues::new(alloc)?;
     let id = Value::Int(id);
     values.push(
@@ -124,27 +129,27 @@ fn line_of(alloc: Global, answer: &Result<Rel, EvalFault>) -> Result<Words, NoMe
     Ok(out)
 }
 
-fn gives(alloc: Global, answer: &Result<Rel, EvalFault>, want: &str) -> bool {
+pub(crate) fn gives(alloc: Global, answer: &Result<Rel, EvalFault>, want: &str) -> bool {
     match line_of(alloc, answer) {
         Ok(line) => line.as_text() == want,
         Err(_) => false,
     }
 }
 
-fn column(name: &str) -> Result<Expr, NoMemory> {
+pub(crate) fn column(name: &str) -> Result<Expr, NoMemory> {
     Ok(Expr::Column {
         qualifier: None,
         name: named(name)?,
     })
 }
 
-fn binary(alloc: Global, op: BinaryOp, a: Expr, n: i64) -> Result<Expr, NoMemory> {
+pub(crate) fn binary(alloc: Global, op: BinaryOp, a: Expr, n: i64) -> Result<Expr, NoMemory> {
     let a = Boxed::new(alloc, a)?;
     let b = Boxed::new(alloc, Expr::Literal(Value::Int(n)))?;
     Ok(Expr::Binary(op, a, b))
 }
 
-fn above_two(alloc: Global, rel: Rel) -> Result<Rel, EvalFault> {
+pub(crate) fn above_two(alloc: Global, rel: Rel) -> Result<Rel, EvalFault> {
     let condition = binary(alloc, BinaryOp::Greater, column("price")?, 2)?;
     filter(alloc, rel, &condition, &Picks::new(alloc)?, 1)
 }
@@ -159,7 +164,7 @@ fn a_row_that_is_left_out_leaves_a_caveat(rt: HostRuntime) {
     assert!(rt; gives(alloc, &kept, "#1 1 2.5000; open "));
 }
 
-fn by_price(alloc: Global, rel: Rel, descending: bool) -> Result<Rel, EvalFault> {
+pub(crate) fn by_price(alloc: Global, rel: Rel, descending: bool) -> Result<Rel, EvalFault> {
     let mut keys = SortKeys::new(alloc)?;
     keys.push(
         alloc,
@@ -189,7 +194,7 @@ fn order_by_a_guess_is_a_caveat(rt: HostRuntime) {
 }
 
 #[tactic(auto, using(crate::proofs::ProjectRules::one_name))]
-fn one_item(alloc: Global, expr: Expr) -> Result<Items, NoMemory>
+pub(crate) fn one_item(alloc: Global, expr: Expr) -> Result<Items, NoMemory>
     ensures { IfOk result (λ items. Distinct (item_names items)) }
 {
     let mut items = Items::new(alloc)?;
