@@ -21,6 +21,8 @@ mod query;
 #[cfg(test)]
 mod tests;
 #[cfg(test)]
+mod tests_having;
+#[cfg(test)]
 mod tests_marks;
 mod uncertain;
 

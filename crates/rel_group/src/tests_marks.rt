@@ -1,15 +1,13 @@
-//! Marks of groups and of DISTINCT: marked keys and values, unsure rows, HAVING, and no rows.
+//! Marks of groups and of DISTINCT: marked keys and values, unsure rows, and no rows.
 ghost use Rattle.std.specs.Prelude.{IfOk};
 ghost use Rattle.dataset_types.specs.Tables.{Distinct, row_ids};
 
-use crate::tests::{
-    binary, column, columns, distinct_of, divided, gives, grouped, int, int_or_null, rel,
-};
+use crate::tests::{column, columns, distinct_of, gives, grouped, int_or_null, rel};
 use cell_errors::EvalFault;
 use dataset_types::{
     MarkedValues, Row, Rows, Table, all_sure, law_of_numbers, names_distinct, rows_fit,
 };
-use expr_lang::{BinaryOp, Expr};
+use expr_lang::Expr;
 use relations::Rel;
 use sqlite_items::Boxed;
 use std::alloc::Global;
@@ -19,7 +17,7 @@ use value_types::{NoMemory, RowId};
 
 /// A row with two numbers, and what is uncertain of it.
 #[derive(Clone, Copy)]
-struct Line {
+pub(crate) struct Line {
     a: Option<i64>,
     a_marked: bool,
     b: Option<i64>,
@@ -29,7 +27,7 @@ struct Line {
 
 /// Three rows, and whether others may be there.
 #[derive(Clone, Copy)]
-struct Lines {
+pub(crate) struct Lines {
     x: Line,
     y: Line,
     z: Line,
@@ -39,7 +37,7 @@ struct Lines {
 
 /// What is asked of each group.
 #[derive(Clone, Copy)]
-enum Asked {
+pub(crate) enum Asked {
     Key,
     CountAll,
     Count,
@@ -48,7 +46,7 @@ enum Asked {
     Max,
 }
 
-fn sure(a: i64, b: i64) -> Line {
+pub(crate) fn sure(a: i64, b: i64) -> Line {
     Line {
         a: Some(a),
         a_marked: false,
@@ -65,7 +63,7 @@ fn guessed_a(line: Line) -> Line {
     }
 }
 
-fn guessed_b(line: Line) -> Line {
+pub(crate) fn guessed_b(line: Line) -> Line {
     Line {
         b_marked: true,
         ..line
@@ -76,7 +74,7 @@ fn without_a(line: Line) -> Line {
     Line { a: None, ..line }
 }
 
-fn without_b(line: Line) -> Line {
+pub(crate) fn without_b(line: Line) -> Line {
     Line { b: None, ..line }
 }
 
@@ -87,7 +85,7 @@ fn unsure(line: Line) -> Line {
     }
 }
 
-fn closed(x: Line, y: Line, z: Line) -> Lines {
+pub(crate) fn closed(x: Line, y: Line, z: Line) -> Lines {
     Lines {
         x,
         y,
@@ -137,7 +135,7 @@ fn rows_of(alloc: Global, lines: Lines) -> Result<Rows, NoMemory>
     Ok(rows)
 }
 
-fn rel_of(rt: &impl Abort, alloc: Global, lines: Lines) -> Result<Rel, EvalFault> {
+pub(crate) fn rel_of(rt: &impl Abort, alloc: Global, lines: Lines) -> Result<Rel, EvalFault> {
     let columns = columns(alloc)?;
     let rows = rows_of(alloc, lines)?;
     assert!(rt; names_distinct(columns.as_slice()));
@@ -153,7 +151,7 @@ fn b(alloc: Global) -> Result<Boxed<Expr>, NoMemory> {
     Ok(Boxed::new(alloc, column("b")?)?)
 }
 
-fn item(alloc: Global, asked: Asked) -> Result<Expr, NoMemory> {
+pub(crate) fn item(alloc: Global, asked: Asked) -> Result<Expr, NoMemory> {
     match asked {
         Asked::Key => column("a"),
         Asked::CountAll => Ok(Expr::CountAll),
@@ -176,28 +174,6 @@ fn shows(
     let rel = rel_of(rt, alloc, lines);
     let answer = grouped(rt, alloc, rel, keys, None, item(alloc, asked));
     gives(alloc, &answer, want)
-}
-
-/// Whether the counts of the groups whose answer is more than a number are shown so.
-fn keeps(
-    rt: &impl Abort,
-    alloc: Global,
-    lines: Lines,
-    keys: &[u32],
-    (asked, number): (Asked, i64),
-    want: &str,
-) -> bool {
-    let rel = rel_of(rt, alloc, lines);
-    let Ok(left) = item(alloc, asked) else {
-        return false;
-    };
-    match binary(alloc, BinaryOp::Greater, left, int(number)) {
-        Ok(having) => {
-            let answer = grouped(rt, alloc, rel, keys, Some(&having), Ok(Expr::CountAll));
-            gives(alloc, &answer, want)
-        }
-        Err(_) => false,
-    }
 }
 
 /// Whether DISTINCT is shown so.
@@ -316,72 +292,6 @@ fn aggregates_over_no_rows(rt: HostRuntime) {
     assert!(rt; shows_of_none(&rt, alloc, true, &[], Asked::CountAll, "[] ~0; "));
     assert!(rt; shows_of_none(&rt, alloc, true, &[], Asked::Sum, "[] ~null; "));
     assert!(rt; shows_of_none(&rt, alloc, true, &[1], Asked::CountAll, "open"));
-}
-
-#[test]
-fn having_over_a_marked_aggregate_opens_and_leaves_what_it_keeps_unsure(rt: HostRuntime) {
-    let alloc = rt.alloc();
-    let lines = closed(sure(1, 4), guessed_b(sure(1, 2)), sure(2, 7));
-    assert!(rt;
-        keeps(
-            &rt,
-            alloc,
-            lines,
-            &[1],
-            (Asked::Sum, 5),
-            "?[1] 2; [2] 1; open"
-        )
-    );
-    assert!(rt; keeps(&rt, alloc, lines, &[1], (Asked::Sum, 6), "[2] 1; open"));
-    assert!(rt; keeps(&rt, alloc, lines, &[1], (Asked::Key, 1), "[2] 1; "));
-    assert!(rt; keeps(&rt, alloc, lines, &[], (Asked::Sum, 5), "?[] 3; open"));
-    assert!(rt; keeps(&rt, alloc, lines, &[], (Asked::Sum, 20), "open"));
-    assert!(rt; keeps(&rt, alloc, lines, &[], (Asked::CountAll, 2), "[] 3; "));
-}
-
-#[test]
-fn having_that_is_null_keeps_no_group(rt: HostRuntime) {
-    let alloc = rt.alloc();
-    let none = without_b(sure(1, 0));
-    let lines = closed(none, sure(2, 7), none);
-    assert!(rt; keeps(&rt, alloc, lines, &[1], (Asked::Sum, 5), "[2] 1; "));
-}
-
-#[test]
-fn the_items_of_a_group_that_having_drops_are_not_looked_at(rt: HostRuntime) {
-    let alloc = rt.alloc();
-    match is_one(alloc) {
-        Ok(having) => {
-            assert!(rt; gives(alloc, &divided(&rt, alloc, Some(&having)), "[1] 1; "));
-        }
-        Err(_) => assert!(rt; false),
-    }
-}
-
-// a = 1
-fn is_one(alloc: Global) -> Result<Expr, NoMemory> {
-    binary(alloc, BinaryOp::Equal, column("a")?, int(1))
-}
-
-// 1 / a = 1 OR a, which divides by the key 0 and is no Bool of the key 2.
-fn two_faults(alloc: Global) -> Result<Expr, NoMemory> {
-    let ratio = binary(alloc, BinaryOp::Divide, int(1), column("a")?)?;
-    let is_one = binary(alloc, BinaryOp::Equal, ratio, int(1))?;
-    binary(alloc, BinaryOp::Or, is_one, column("a")?)
-}
-
-#[test]
-fn errors_of_having_come_in_the_order_of_groups(rt: HostRuntime) {
-    let alloc = rt.alloc();
-    let rel = rel_of(&rt, alloc, closed(sure(2, 1), sure(0, 1), sure(2, 1)));
-    match two_faults(alloc) {
-        Ok(having) => {
-            let count = Ok(Expr::CountAll);
-            let answer = grouped(&rt, alloc, rel, &[1], Some(&having), count);
-            assert!(rt; gives(alloc, &answer, "ZeroDivisor"));
-        }
-        Err(_) => assert!(rt; false),
-    }
 }
 
 #[test]
