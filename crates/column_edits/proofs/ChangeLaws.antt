@@ -1,40 +1,23 @@
 -- The laws of the commands that lay columns out anew.
 use Rattle.std.proofs.Common.{◌≡◌, Bool, true, false, Option, Some, Ok, Err, List, [], ◌∷◌, map, cond, filter, refl, ap, ◌∙◌, sym}
-use Rattle.std.specs.Prelude.{if◌then◌else◌}
 use Rattle.std.specs.Result.{result_map_both}
 use Rattle.value_types.specs.declared.value.Value.{Value}
 use Rattle.value_types.specs.declared.value.Value.TheVariants.{Null}
 use Rattle.cell_errors.specs.Answers.{Answer, and_then}
-use Rattle.cell_errors.specs.declared.fault.CellError.TheVariants as error
 use Rattle.dataset_types.specs.declared.column.Column.{Column}
 use Rattle.dataset_types.specs.declared.row.Row.{Row}
-use Rattle.dataset_types.specs.Tables.{TableData, within_limits}
+use Rattle.dataset_types.specs.Tables.{TableData}
 use Rattle.dataset_types.specs.Plain.{erased, erased_row}
-use Rattle.dataset_types.proofs.PlainLemmas.{within_erased}
 use Rattle.caveat_marks.specs.Shown.{ShownRow, ShownTable, shown, shown_row, shown_value, placed, ById}
 use Rattle.relations.proofs.ByIds.{map_by_id}
 use Rattle.relations.proofs.Gathered.{fine, the_same, then_ok}
+use Rattle.edit_results.specs.Results.{whole, plain_whole}
+use Rattle.edit_results.proofs.Whole.{whole_erased, whole_is}
 use Rattle.column_edits.specs.declared.layout.LaidColumn.{LaidColumn}
 use Rattle.column_edits.specs.Layout.{columns_of, laid}
-use Rattle.column_edits.specs.Changes.{blank, laid_row, whole, laid_out, changed, plain_laid_row, plain_whole, plain_laid_out, with_values, shown_with, shown_changed}
+use Rattle.column_edits.specs.Changes.{blank, laid_row, laid_out, changed, plain_laid_row, plain_laid_out, with_values, shown_with, shown_changed}
 use Rattle.column_edits.specs.Laws.{Shows, KeepsShown, ChangeErases, ChangeShows, ChangeKeepsShown}
 use Rattle.column_edits.proofs.Laying.{laid_read}
-
--- ---- whole tables
-
-pub whole_erased : (t : TableData) → result_map_both erased (λ e. e) (whole t) ≡ plain_whole (erased t)
-whole_erased t = rw (within_erased t) (at (within_limits t))
-  where
-    at : (b : Bool) → result_map_both erased (λ e. e) (if b then Ok t else Err error.TooLarge) ≡ (if b then Ok (erased t) else Err error.TooLarge)
-    at true = refl
-    at false = refl
-
-pub whole_is : (t out : TableData) → whole t ≡ Ok out → t ≡ out
-whole_is t out e = at (within_limits t) e
-  where
-    at : (b : Bool) → (if b then Ok t else Err error.TooLarge) ≡ Ok out → t ≡ out
-    at true h = the_same t out h
-    at false h = cc
 
 -- ---- erasure
 

@@ -20,7 +20,8 @@ use Rattle.expr_meaning.proofs.Readings.{M-Column}
 use Rattle.expr_meaning.proofs.Typings.{T-Column}
 use Rattle.relations.specs.Bound.{bindings}
 use Rattle.column_edits.specs.Plans.{insertion, deletion, renaming, moving, keeping}
-use Rattle.column_edits.specs.Changes.{whole, changed}
+use Rattle.edit_results.specs.Results.{whole}
+use Rattle.column_edits.specs.Changes.{changed}
 use Rattle.column_edits.specs.Formula.{scope, formula_type, open_to, entered_seen, refilled, formula_row}
 use Rattle.column_edits.specs.Changes.{laid_row}
 

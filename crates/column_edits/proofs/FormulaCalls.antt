@@ -9,7 +9,7 @@ use Rattle.dataset_types.specs.declared.row.Row.{Row}
 use Rattle.dataset_types.specs.Tables.{TableData, table_of}
 use Rattle.expr_lang.specs.declared.expr.Expr.{Expr}
 use Rattle.expr_meaning.specs.Names.{Name}
-use Rattle.column_edits.specs.Changes.{whole}
+use Rattle.edit_results.specs.Results.{whole}
 use Rattle.column_edits.specs.Formula.{formula_type, formula_row, formula}
 
 module _ (name : Name) (expr : Expr) (picks : List Pick) (cell : ℕ) (t : TableData) (k : ColumnType) (typed : formula_type name expr t.columns ≡ Ok k) where

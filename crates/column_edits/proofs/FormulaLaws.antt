@@ -19,12 +19,14 @@ use Rattle.expr_meaning.specs.Names.{Name}
 use Rattle.relations.specs.Bound.{bindings}
 use Rattle.relations.proofs.Binds.{over_plain, over_known}
 use Rattle.relations.proofs.Gathered.{fine, the_same, then_ok}
+use Rattle.edit_results.specs.Results.{whole, plain_whole}
+use Rattle.edit_results.proofs.Whole.{whole_erased, whole_is}
 use Rattle.column_edits.specs.Layout.{laid}
-use Rattle.column_edits.specs.Changes.{laid_row, whole, plain_laid_row, plain_whole, shown_with}
+use Rattle.column_edits.specs.Changes.{laid_row, plain_laid_row, shown_with}
 use Rattle.column_edits.specs.Formula.{scope, formula_type, entered, entered_seen, refilled, formula_row, formula, plain_formula_row, plain_formula, value_in, entered_known, shown_refilled, shown_formula}
 use Rattle.column_edits.specs.Laws.{Erases, Shows, KeepsShown}
 use Rattle.column_edits.proofs.Laying.{laid_read}
-use Rattle.column_edits.proofs.ChangeLaws.{whole_erased, whole_is, with_placed, sure_rows, keeps_shown}
+use Rattle.column_edits.proofs.ChangeLaws.{with_placed, sure_rows, keeps_shown}
 
 -- ---- erasure
 

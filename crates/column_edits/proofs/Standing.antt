@@ -1,16 +1,17 @@
 -- A table under the layout of its columns as they stand is that table.
-use Rattle.std.proofs.Common.{◌≡◌, ℕ, suc, ◌+◌, Bool, true, false, Some, Ok, Err, List, [], ◌∷◌, map, length, refl, subst, ap, ◌∙◌, arith}
-use Rattle.std.specs.Prelude.{IsTrue, if◌then◌else◌, ◌==◌, unwrap_or, slice_get}
+use Rattle.std.proofs.Common.{◌≡◌, ℕ, suc, ◌+◌, Some, Ok, List, [], ◌∷◌, map, length, refl, subst, ap, ◌∙◌, arith}
+use Rattle.std.specs.Prelude.{IsTrue, ◌==◌, unwrap_or, slice_get}
 use Rattle.std.specs.List.{enumerate_from}
 use Rattle.std.proofs.lemmas.Bool.Decides.{Decides-eqb}
-use Rattle.cell_errors.specs.declared.fault.CellError.TheVariants as error
 use Rattle.dataset_types.specs.declared.column.Column.{Column}
 use Rattle.dataset_types.specs.declared.row.Marked.{Marked}
 use Rattle.dataset_types.specs.declared.row.Row.{Row}
-use Rattle.dataset_types.specs.Tables.{TableData, IsTable, table_of, values_fit, row_fits, rows_fit, within_limits}
+use Rattle.dataset_types.specs.Tables.{TableData, IsTable, table_of, values_fit, row_fits, rows_fit}
+use Rattle.edit_results.specs.Results.{whole}
+use Rattle.edit_results.proofs.Whole.{whole_of}
 use Rattle.column_edits.specs.declared.layout.LaidColumn.{LaidColumn}
 use Rattle.column_edits.specs.Layout.{standing, as_they_stand, laid}
-use Rattle.column_edits.specs.Changes.{blank, laid_row, laid_out, whole}
+use Rattle.column_edits.specs.Changes.{blank, laid_row, laid_out}
 use Rattle.column_edits.proofs.Laying.{and_parts}
 use Rattle.column_edits.proofs.PlanRules.{from_here, from_next, from_start}
 use Rattle.column_edits.proofs.TableRules.{stand_columns}
@@ -41,8 +42,4 @@ rows_stand columns (r ∷ rs) g =
     λ i. one i ∷ more i
 
 pub table_stands : (layout : List LaidColumn) (t : TableData) → IsTable t → layout ≡ as_they_stand t.columns → whole (laid_out layout t) ≡ Ok t
-table_stands layout t is e = rw e (ap whole (λ i. table_of (stand_columns t.columns i) (rows_stand t.columns t.rows is.fitting i) t.is_open t.is_loose) ∙ within (within_limits t) is.limits)
-  where
-    within : (b : Bool) → b ≡ true → (if b then Ok t else Err error.TooLarge) ≡ Ok t
-    within true k = refl
-    within false k = cc
+table_stands layout t is e = rw e (ap whole (λ i. table_of (stand_columns t.columns i) (rows_stand t.columns t.rows is.fitting i) t.is_open t.is_loose) ∙ whole_of t is)

@@ -1,6 +1,6 @@
 -- The rules that the tables of the commands keep.
 use Rattle.std.proofs.Common.{◌≡◌, ℕ, ◌+◌, ℤ, Bool, true, false, ◌&&◌, Option, Some, None, Ok, Err, List, [], ◌∷◌, map, refl, subst, ap, ◌∙◌, sym}
-use Rattle.std.specs.Prelude.{IsTrue, if◌then◌else◌, option_map, ◌==◌, length}
+use Rattle.std.specs.Prelude.{IsTrue, if◌then◌else◌, ◌==◌, length}
 use Rattle.value_types.specs.Numbers.{widened}
 use Rattle.value_types.specs.declared.value.ColumnType.{ColumnType}
 use Rattle.value_types.specs.declared.value.ColumnType.TheVariants as kind
@@ -27,12 +27,14 @@ use Rattle.relations.proofs.Gathered.{fine, the_same, then_ok, Each}
 use Rattle.relations.proofs.TypeLaw.{keeps_type, row_is_bound, alone}
 use Rattle.std.proofs.lemmas.Bool.Decides.{Decides-eqb}
 use Rattle.std.specs.List.{Contains, enumerate_from}
+use Rattle.edit_results.specs.Results.{KeepsRules}
+use Rattle.edit_results.specs.Widening.{fixed_or, as_fixed}
 use Rattle.column_edits.specs.declared.layout.LaidColumn.{LaidColumn}
 use Rattle.column_edits.specs.Layout.{standing, as_they_stand, columns_of}
 use Rattle.column_edits.specs.Plans.{has_name, find}
 use Rattle.column_edits.specs.Changes.{blank, laid_row, laid_out}
-use Rattle.column_edits.specs.Formula.{scope, goes_into, open_to, formula_type, or_overflow, entered, entered_seen, emptied, emptied_at, refilled, formula_row}
-use Rattle.column_edits.specs.Rules.{KeepsRules, names_of, IsLayout}
+use Rattle.column_edits.specs.Formula.{scope, goes_into, open_to, formula_type, entered, entered_seen, emptied, emptied_at, refilled, formula_row}
+use Rattle.column_edits.specs.Rules.{names_of, IsLayout}
 use Rattle.column_edits.proofs.Laying.{Takes, and_parts, laid_row_fits}
 use Rattle.column_edits.proofs.Places.{here, there}
 use Rattle.column_edits.proofs.Names.{not_both, names_are, names_stand, name_is}
@@ -65,10 +67,10 @@ laid_out_rules layout t is good = record {
 
 -- ---- what a formula's value is
 
-or_is : (n : ℤ) (w : Value) → or_overflow (option_map Fixed (widened n)) ≡ Ok w → IsTrue (fits w kind.Fixed)
+or_is : (n : ℤ) (w : Value) → as_fixed n ≡ Ok w → IsTrue (fits w kind.Fixed)
 or_is n w e = at (widened n) e
   where
-    at : (o : Option ℤ) → or_overflow (option_map Fixed o) ≡ Ok w → IsTrue (fits w kind.Fixed)
+    at : (o : Option ℤ) → fixed_or o ≡ Ok w → IsTrue (fits w kind.Fixed)
     at None h = cc
     at (Some m) h = subst (λ z. IsTrue (fits z kind.Fixed)) (the_same (Fixed m) w h) refl
 

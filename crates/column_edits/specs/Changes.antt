@@ -1,15 +1,15 @@
 -- A table under a layout: with marks, without them, and over what is shown.
-use Rattle.std.specs.Prelude.{if◌then◌else◌, false, Option, Some, option_map, Ok, Err, List, map}
+use Rattle.std.specs.Prelude.{false, Option, Some, option_map, Ok, List, map}
 use Rattle.value_types.specs.declared.value.Value.{Value}
 use Rattle.value_types.specs.declared.value.Value.TheVariants.{Null}
-use Rattle.cell_errors.specs.declared.fault.CellError.TheVariants as error
 use Rattle.cell_errors.specs.Answers.{Answer, and_then}
 use Rattle.dataset_types.specs.declared.column.Column.{Column}
 use Rattle.dataset_types.specs.declared.row.Marked.{Marked}
 use Rattle.dataset_types.specs.declared.row.Row.{Row}
-use Rattle.dataset_types.specs.Tables.{TableData, table_of, within_limits}
-use Rattle.dataset_types.specs.Plain.{PlainRow, PlainTable, plain_within}
+use Rattle.dataset_types.specs.Tables.{TableData, table_of}
+use Rattle.dataset_types.specs.Plain.{PlainRow, PlainTable}
 use Rattle.caveat_marks.specs.Shown.{ShownRows, InOrder, ById, ShownTable}
+use Rattle.edit_results.specs.Results.{whole, plain_whole}
 use Rattle.column_edits.specs.declared.layout.LaidColumn.{LaidColumn}
 use Rattle.column_edits.specs.Layout.{columns_of, laid}
 
@@ -22,10 +22,6 @@ blank = record { value = Null; marked = false }
 -- a row under a layout, with this value in the columns without a source
 abbrev pub laid_row : List LaidColumn → Marked → Row → Row
 laid_row layout new r = record { id = r.id; sure = r.sure; values = laid new layout r.values }
-
--- a whole table, where it is within the limits
-abbrev pub whole : TableData → Answer TableData
-whole t = if within_limits t then Ok t else Err error.TooLarge
 
 -- a table under a layout, with NULL in the columns without a source
 abbrev pub laid_out : List LaidColumn → TableData → TableData
@@ -40,10 +36,6 @@ changed plan t = and_then (plan t.columns) (λ layout. whole (laid_out layout t)
 -- a row under a layout
 abbrev pub plain_laid_row : List LaidColumn → Value → PlainRow → PlainRow
 plain_laid_row layout new r = record { id = r.id; values = laid new layout r.values }
-
--- a whole table, where it is within the limits
-abbrev pub plain_whole : PlainTable → Answer PlainTable
-plain_whole t = if plain_within t then Ok t else Err error.TooLarge
 
 -- a table under a layout
 abbrev pub plain_laid_out : List LaidColumn → PlainTable → PlainTable

@@ -1,6 +1,5 @@
 -- The command formula: a column whose value in each row is an expression's over that row.
-use Rattle.std.specs.Prelude.{ℕ, if◌then◌else◌, Bool, true, Option, Some, None, option_map, Ok, Err, List, map}
-use Rattle.value_types.specs.Numbers.{widened}
+use Rattle.std.specs.Prelude.{ℕ, if◌then◌else◌, Bool, true, Option, Some, None, Ok, Err, List, map}
 use Rattle.value_types.specs.Order.{same_type}
 use Rattle.value_types.specs.declared.value.ColumnType.{ColumnType}
 use Rattle.value_types.specs.declared.value.ColumnType.TheVariants as kind
@@ -26,10 +25,12 @@ use Rattle.expr_meaning.specs.Names.{Name}
 use Rattle.expr_meaning.specs.Types.{type_over}
 use Rattle.relations.specs.Bound.{bindings, plain_bindings, known_bindings}
 use Rattle.relations.specs.Rels.{qualified}
+use Rattle.edit_results.specs.Results.{whole, plain_whole}
+use Rattle.edit_results.specs.Widening.{as_fixed}
 use Rattle.column_edits.specs.declared.layout.LaidColumn.{LaidColumn}
 use Rattle.column_edits.specs.Layout.{as_they_stand, laid}
 use Rattle.column_edits.specs.Plans.{has_name, find}
-use Rattle.column_edits.specs.Changes.{laid_row, whole, plain_laid_row, plain_whole, shown_with}
+use Rattle.column_edits.specs.Changes.{laid_row, plain_laid_row, shown_with}
 
 -- ---- types
 
@@ -55,14 +56,9 @@ formula_type name expr columns =
 
 -- ---- values
 
--- a number, or the error where there is none
-abbrev pub or_overflow : Option Value → Answer Value
-or_overflow None = Err error.Overflow
-or_overflow (Some v) = Ok v
-
 -- a value as one of a column's type: an Int is widened into a Fixed, and all else stays
 abbrev pub entered : ColumnType → Value → Answer Value
-entered kind.Fixed (value.Int n) = or_overflow (option_map value.Fixed (widened n))
+entered kind.Fixed (value.Int n) = as_fixed n
 entered k v = Ok v
 
 -- a value as one of a column's type, with its mark

@@ -1,5 +1,6 @@
 -- What each command makes of the columns: the layout of its result, or its error.
-use Rattle.std.specs.Prelude.{ℕ, suc, ◌-◌, ◌&&◌, not, nat_le, if◌then◌else◌, Bool, None, Ok, Err, List, [], ◌∷◌, length, map, filter}
+use Rattle.std.specs.Prelude.{ℕ, suc, ◌-◌, ◌&&◌, not, nat_le, if◌then◌else◌, Bool, None, Ok, Err}
+use Rattle.std.specs.Prelude.{List, [], ◌∷◌, length, map, filter}
 use Rattle.std.specs.List.{insert, list_any}
 use Rattle.std.specs.Str.{bytes_eq}
 use Rattle.value_types.specs.declared.value.ColumnType.{ColumnType}

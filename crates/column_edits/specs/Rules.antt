@@ -1,8 +1,8 @@
--- What a table's parts and a layout have to keep.
-use Rattle.std.specs.Prelude.{◌≡◌, false, IsTrue, List, map}
+-- What a layout has to keep, and a row of a formula.
+use Rattle.std.specs.Prelude.{IsTrue, List, map}
 use Rattle.dataset_types.specs.declared.column.Column.{Column}
 use Rattle.dataset_types.specs.declared.row.Row.{Row}
-use Rattle.dataset_types.specs.Tables.{TableData, Distinct, column_names, row_ids, row_fits, rows_fit, all_sure}
+use Rattle.dataset_types.specs.Tables.{Distinct, row_fits}
 use Rattle.expr_meaning.specs.Names.{Name}
 use Rattle.cell_errors.specs.Answers.{Answer}
 use Rattle.column_edits.specs.declared.computing.InRow.{InRow}
@@ -10,13 +10,6 @@ use Rattle.column_edits.specs.declared.layout.LaidColumn.{LaidColumn}
 use Rattle.column_edits.specs.Layout.{columns_of}
 use Rattle.column_edits.specs.Changes.{blank, laid_row}
 use Rattle.column_edits.specs.Formula.{row_with}
-
--- the rules of a dataset, but for its limits
-pub record KeepsRules (t : TableData) : Type 0 where
-  pub names : Distinct (column_names t.columns)
-  pub ids : Distinct (row_ids t.rows)
-  pub fitting : IsTrue (rows_fit t.columns t.rows)
-  pub sure : t.is_open ≡ false → IsTrue (all_sure t.rows)
 
 -- the names of the columns of a layout
 abbrev pub names_of : List LaidColumn → List Name

@@ -6,14 +6,14 @@ ghost use Rattle.column_edits.specs.Rules.{row_by};
 
 use crate::layout::{LaidColumn, Layout, as_they_stand, laid_row};
 use crate::plans::{find, has_name};
-use crate::result::whole_table;
 use cell_errors::{CellError, EvalFault};
 use dataset_types::{Column, Marked, Picks, Row, Rows, Table};
+use edit_results::{as_fixed, shared_if_same, whole_table};
 use expr_lang::Expr;
 use expr_meaning::{ExprType, Scope, ScopeColumn, eval, type_of};
 use relations::bind;
 use std::alloc::Global;
-use value_types::{ArcOf, ColumnType, Name, NoMemory, Value, widen};
+use value_types::{ArcOf, ColumnType, Name, NoMemory, Value};
 
 fn scope_of(alloc: Global, columns: &[Column]) -> Result<Scope, NoMemory>
     ensures { IfOk result (λ s. s ≡ spec.scope columns.now) }
@@ -64,9 +64,7 @@ fn entered(kind: ColumnType, value: Value) -> Result<Value, CellError>
     ensures { result ≡ spec.entered kind value }
 {
     match (kind, value) {
-        (ColumnType::Fixed, Value::Int(n)) => {
-            widen(n).map(Value::Fixed).ok_or(CellError::Overflow)
-        }
+        (ColumnType::Fixed, Value::Int(n)) => as_fixed(n),
         (_, value) => Ok(value),
     }
 }
@@ -135,13 +133,7 @@ fn formula_rows(alloc: Global, how: &InRow, rows: &[Row]) -> Result<Rows, EvalFa
     Ok(all)
 }
 
-/// The value of a column computed from the values of its row, with the marks of what was looked at.
-///
-/// - Shape: an Int goes into a Fixed column as its widening, and NULL into each column.
-/// - Error: `NoColumn` where no column has the name; then the first error of the expression's types; then `TypeFault` where its type
-///   doesn't go into the column; then the first of evaluation, or `Overflow` of a widening, in the order of rows; then `TooLarge`.
-/// - Source: docs/EDITING.md; docs/EXPRESSIONS.md.
-pub fn formula(
+fn computed(
     alloc: Global,
     table: &Table,
     column: &Name,
@@ -167,4 +159,24 @@ pub fn formula(
     let rows = formula_rows(alloc, &how, table.rows().as_slice())?;
     let columns = columns.copy(alloc)?;
     whole_table(alloc, columns, rows, table.is_open(), table.is_loose())
+}
+
+/// The value of a column computed from the values of its row, with the marks of what was looked at.
+///
+/// - Shape: an Int goes into a Fixed column as its widening, and NULL into each column. Where nothing changes, the table is the same one.
+/// - Error: `NoColumn` where no column has the name; then the first error of the expression's types; then `TypeFault` where its type
+///   doesn't go into the column; then the first of evaluation, or `Overflow` of a widening, in the order of rows; then `TooLarge`.
+/// - Source: docs/EDITING.md; docs/EXPRESSIONS.md.
+pub fn formula(
+    alloc: Global,
+    table: &ArcOf<Table>,
+    column: &Name,
+    expr: &Expr,
+    picks: &Picks,
+    cell: u32,
+) -> Result<ArcOf<Table>, EvalFault>
+    ensures { Gives result (spec.formula column.now expr.now picks.now cell table.now) }
+{
+    let made = computed(alloc, table.get(), column, expr, picks, cell)?;
+    Ok(shared_if_same(alloc, table, made)?)
 }

@@ -1,33 +1,15 @@
 //! The table that a command gives.
-ghost use Rattle.std.specs.Prelude.{◌≡◌};
 ghost use Rattle.cell_errors.specs.Answers.{Gives};
-ghost use Rattle.dataset_types.specs.Tables.{table_of};
-ghost use Rattle.column_edits.specs.Changes.{laid_out, whole};
-ghost use Rattle.column_edits.specs.Rules.{KeepsRules, IsLayout};
+ghost use Rattle.edit_results.specs.Results.{whole};
+ghost use Rattle.column_edits.specs.Changes.{laid_out};
+ghost use Rattle.column_edits.specs.Rules.{IsLayout};
 
 use crate::layout::{Layout, columns_of, is_standing, laid_rows};
-use cell_errors::{CellError, EvalFault};
-use dataset_types::{Columns, Rows, Table, TableFault};
+use cell_errors::EvalFault;
+use dataset_types::Table;
+use edit_results::whole_table;
 use std::alloc::Global;
 use value_types::ArcOf;
-
-/// The table of these parts, to be shared, where it is within the limits.
-pub(crate) fn whole_table(
-    alloc: Global,
-    columns: Columns,
-    rows: Rows,
-    is_open: bool,
-    is_loose: bool,
-) -> Result<ArcOf<Table>, EvalFault>
-    requires { KeepsRules (table_of columns rows is_open is_loose) }
-    ensures { Gives result (whole (table_of columns rows is_open is_loose)) }
-{
-    match Table::new(alloc, columns, rows, is_open, is_loose) {
-        Ok(table) => Ok(ArcOf::new(alloc, table)?),
-        Err(TableFault::TooLarge) => Err(EvalFault::Error(CellError::TooLarge)),
-        Err(TableFault::NoMemory) => Err(EvalFault::NoMemory),
-    }
-}
 
 /// A table under a layout, with NULL in the columns without a source.
 pub(crate) fn lay_out(

@@ -39,7 +39,7 @@ fn by(
     let expr = binary(alloc, op, column(None, of)?, right)?;
     formula(
         alloc,
-        prices(rt, alloc)?.get(),
+        &prices(rt, alloc)?,
         &named(name)?,
         &expr,
         &Picks::new(alloc)?,
@@ -51,7 +51,7 @@ fn of_qualified(rt: &impl Abort, alloc: Global) -> Result<ArcOf<Table>, EvalFaul
     let expr = column(Some(named("p")?), "price")?;
     formula(
         alloc,
-        prices(rt, alloc)?.get(),
+        &prices(rt, alloc)?,
         &named("price")?,
         &expr,
         &Picks::new(alloc)?,
@@ -150,13 +150,18 @@ fn long_text(rt: &impl Abort, alloc: Global, bytes: u32) -> Result<ArcOf<Table>,
 }
 
 // A column with the values of a column.
-fn copied(alloc: Global, table: &Table, from: &str, to: &str) -> Result<ArcOf<Table>, EvalFault> {
+fn copied(
+    alloc: Global,
+    table: &ArcOf<Table>,
+    from: &str,
+    to: &str,
+) -> Result<ArcOf<Table>, EvalFault> {
     let expr = column(None, from)?;
     formula(alloc, table, &named(to)?, &expr, &Picks::new(alloc)?, 1)
 }
 
 fn doubled(rt: &impl Abort, alloc: Global, bytes: u32) -> Result<ArcOf<Table>, EvalFault> {
-    copied(alloc, long_text(rt, alloc, bytes)?.get(), "a", "b")
+    copied(alloc, &long_text(rt, alloc, bytes)?, "a", "b")
 }
 
 #[test]

@@ -10,15 +10,17 @@ use Rattle.dataset_types.proofs.TableLemmas.{Distinct-filter}
 use Rattle.caveat_marks.specs.Shown.{ById, shown, shown_row, values_at, placed}
 use Rattle.relations.specs.Shown.{sure_rows}
 use Rattle.relations.proofs.Gathered.{then_ok, the_same}
+use Rattle.edit_results.specs.Results.{KeepsRules, whole, plain_whole}
+use Rattle.edit_results.proofs.Whole.{whole_is, whole_table}
 use Rattle.row_edits.specs.ByText.{is_text, without, is_there}
 use Rattle.row_edits.specs.Rows.{deleted}
-use Rattle.row_edits.specs.Tables.{KeepsRules, limited, plain_limited, row_id, plain_id, shown_id}
+use Rattle.row_edits.specs.Ids.{row_id, plain_id, shown_id}
 use Rattle.row_edits.specs.Delete.{row_deleted, without_text, delete_shown, shown_row_deleted}
 use Rattle.row_edits.specs.Laws.{DeleteErases, DeleteShows, DeleteKeepsShown, DeleteKeepsRules}
 use Rattle.row_edits.proofs.PutIn.{all_filter}
 use Rattle.row_edits.proofs.Mapped.{without_map, deleted_map}
 use Rattle.row_edits.proofs.Sures.{Values, without_filter, values_filter}
-use Rattle.row_edits.proofs.Results.{limited_ok, limited_table, if_ok, rows_erased, keeps_shown}
+use Rattle.row_edits.proofs.Results.{if_ok, rows_erased, keeps_shown}
 
 deleted_ok : (row : List ℕ) (rows out : List Row) → deleted row_id row rows ≡ Ok out → without row_id row rows ≡ out
 deleted_ok row rows out e =
@@ -38,15 +40,15 @@ delete_rules t row rows is e =
 
 pub delete_table : (row : List ℕ) → DeleteKeepsRules row
 delete_table row t out is e =
-    let p = then_ok (deleted row_id row t.rows) (λ rows. limited (table_of t.columns rows t.is_open t.is_loose)) out e in
-    limited_table (table_of t.columns p.0 t.is_open t.is_loose) out (delete_rules t row p.0 is p.1) p.2
+    let p = then_ok (deleted row_id row t.rows) (λ rows. whole (table_of t.columns rows t.is_open t.is_loose)) out e in
+    whole_table (table_of t.columns p.0 t.is_open t.is_loose) out (delete_rules t row p.0 is p.1) p.2
 
 -- ---- erasure
 
 pub delete_erases : (row : List ℕ) → DeleteErases row
 delete_erases row t =
     rows_erased t.columns t.is_open t.is_loose (deleted row_id row t.rows)
-    ∙ ap (λ a. and_then a (λ rows. plain_limited (record { columns = t.columns; rows = rows }))) (deleted_map row_id plain_id erased_row (λ r. refl) row t.rows)
+    ∙ ap (λ a. and_then a (λ rows. plain_whole (record { columns = t.columns; rows = rows }))) (deleted_map row_id plain_id erased_row (λ r. refl) row t.rows)
 
 -- ---- what is shown
 
@@ -75,9 +77,9 @@ module _ (row : List ℕ) (t : TableData) where
 
 pub delete_shows : (row : List ℕ) → DeleteShows row
 delete_shows row t out is e =
-    let p = then_ok (deleted row_id row t.rows) (λ rows. limited (table_of t.columns rows t.is_open t.is_loose)) out e in
+    let p = then_ok (deleted row_id row t.rows) (λ rows. whole (table_of t.columns rows t.is_open t.is_loose)) out e in
     subst (λ x. shown x ≡ shown_row_deleted (shown t) row)
-    (ap (λ rs. table_of t.columns rs t.is_open t.is_loose) (deleted_ok row t.rows p.0 p.1) ∙ limited_ok (table_of t.columns p.0 t.is_open t.is_loose) out p.2)
+    (ap (λ rs. table_of t.columns rs t.is_open t.is_loose) (deleted_ok row t.rows p.0 p.1) ∙ whole_is (table_of t.columns p.0 t.is_open t.is_loose) out p.2)
     (shows row t)
 
 -- ---- other picks

@@ -39,9 +39,13 @@ before_all = rw (same-Named (codes "a"), same-Named (codes "b"), outs-Named (cod
 after_no_row : inserted itself new (Some (codes "@c")) two ≡ Err error.NoRow
 after_no_row = rw (id-Named (codes "a"), id-Named (codes "b")) refl
 
--- an id stands once, and the row that isn't there comes before that
+-- an id stands once
 twice : inserted itself first None two ≡ Err error.RowTaken
 twice = rw (same-Named (codes "a"), outs-Named (codes "a")) refl
+
+-- a row that isn't there is told before an id that is taken
+twice_after_no_row : inserted itself first (Some (codes "@c")) two ≡ Err error.NoRow
+twice_after_no_row = rw (id-Named (codes "a"), id-Named (codes "b")) refl
 
 -- ---- delete_row
 

@@ -9,7 +9,7 @@ use Rattle.dataset_types.proofs.TableLemmas.{empty_contains, Contains-cases, Dis
 use Rattle.caveat_marks.specs.Shown.{shown_row}
 use Rattle.relations.specs.Shown.{sure_rows}
 use Rattle.row_edits.specs.ByText.{put_in, is_taken}
-use Rattle.row_edits.specs.Tables.{row_id, shown_id}
+use Rattle.row_edits.specs.Ids.{row_id, shown_id}
 use Rattle.row_edits.proofs.PutIn.{here, later, map_put, put_distinct}
 
 -- an id that isn't taken isn't there

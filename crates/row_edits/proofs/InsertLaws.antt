@@ -17,16 +17,18 @@ use Rattle.caveat_marks.specs.Shown.{ShownRow, InOrder, ById, shown, shown_row, 
 use Rattle.relations.specs.Shown.{sure_rows}
 use Rattle.relations.proofs.Gathered.{then_ok}
 use Rattle.relations.proofs.Sames.{by_each_id}
+use Rattle.edit_results.specs.Results.{KeepsRules, whole, plain_whole}
+use Rattle.edit_results.proofs.Whole.{whole_is, whole_table}
 use Rattle.row_edits.specs.ByText.{put_in, only, is_there, is_place, is_taken, place_of, after}
 use Rattle.row_edits.specs.Rows.{inserted}
-use Rattle.row_edits.specs.Tables.{KeepsRules, limited, plain_limited, row_id, plain_id, shown_id}
+use Rattle.row_edits.specs.Ids.{row_id, plain_id, shown_id}
 use Rattle.row_edits.specs.Insert.{nulls, null_row, any_unsure, is_unsure, row_inserted, shown_null_row, is_hidden, with_row, insert_shown, shown_row_inserted}
 use Rattle.row_edits.specs.Laws.{InsertErases, InsertShows, InsertKeepsShown, InsertKeepsRules}
 use Rattle.row_edits.proofs.PutIn.{map_put, put_all, filter_put}
 use Rattle.row_edits.proofs.Mapped.{is_place_map, after_map, inserted_map}
 use Rattle.row_edits.proofs.Sures.{after_filter, there_filter, gone_filter, put_at_id}
 use Rattle.row_edits.proofs.Ids.{not_taken, only_one, with_one, shown_among}
-use Rattle.row_edits.proofs.Results.{limited_ok, limited_table, rows_erased, keeps_shown}
+use Rattle.row_edits.proofs.Results.{rows_erased, keeps_shown}
 
 -- what stands where a row was inserted
 pub inserted_ok : (new : Row) (place : Option (List ℕ)) (rows out : List Row) → inserted row_id new place rows ≡ Ok out →
@@ -74,8 +76,8 @@ insert_rules t name place rows is_loose is e =
 pub insert_table : (name : List ℕ) (place : Option (List ℕ)) → InsertKeepsRules name place
 insert_table name place t out is e =
     let loose = t.is_loose || is_unsure place t.rows in
-    let p = then_ok (inserted row_id (null_row name t.columns) place t.rows) (λ rs. limited (table_of t.columns rs t.is_open loose)) out e in
-    limited_table (table_of t.columns p.0 t.is_open loose) out (insert_rules t name place p.0 loose is p.1) p.2
+    let p = then_ok (inserted row_id (null_row name t.columns) place t.rows) (λ rs. whole (table_of t.columns rs t.is_open loose)) out e in
+    whole_table (table_of t.columns p.0 t.is_open loose) out (insert_rules t name place p.0 loose is p.1) p.2
 
 -- ---- erasure
 
@@ -86,7 +88,7 @@ null_erased (c ∷ cs) = ap (λ z. Null ∷ z) (null_erased cs)
 pub insert_erases : (name : List ℕ) (place : Option (List ℕ)) → InsertErases name place
 insert_erases name place t =
     rows_erased t.columns t.is_open (t.is_loose || is_unsure place t.rows) (inserted row_id (null_row name t.columns) place t.rows)
-    ∙ ap (λ a. and_then a (λ rows. plain_limited (record { columns = t.columns; rows = rows })))
+    ∙ ap (λ a. and_then a (λ rows. plain_whole (record { columns = t.columns; rows = rows })))
     (inserted_map row_id plain_id erased_row (λ r. refl) (null_row name t.columns) place t.rows
     ∙ ap (λ vs. inserted plain_id (record { id = Named name; values = vs }) place (map erased_row t.rows)) (null_erased t.columns))
 
@@ -171,10 +173,10 @@ module _ (name : List ℕ) (place : Option (List ℕ)) (t : TableData) (there : 
 pub insert_shows : (name : List ℕ) (place : Option (List ℕ)) → InsertShows name place
 insert_shows name place t out is e =
     let loose = t.is_loose || is_unsure place t.rows in
-    let p = then_ok (inserted row_id (null_row name t.columns) place t.rows) (λ rs. limited (table_of t.columns rs t.is_open loose)) out e in
+    let p = then_ok (inserted row_id (null_row name t.columns) place t.rows) (λ rs. whole (table_of t.columns rs t.is_open loose)) out e in
     let ok = inserted_ok (null_row name t.columns) place t.rows p.0 p.1 in
     subst (λ x. shown x ≡ shown_row_inserted (shown t) name place)
-    (ap (λ rs. table_of t.columns rs t.is_open loose) ok.2 ∙ limited_ok (table_of t.columns p.0 t.is_open loose) out p.2)
+    (ap (λ rs. table_of t.columns rs t.is_open loose) ok.2 ∙ whole_is (table_of t.columns p.0 t.is_open loose) out p.2)
     (shows name place t ok.0 ok.1)
 
 -- ---- other picks

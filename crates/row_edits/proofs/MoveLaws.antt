@@ -11,9 +11,11 @@ use Rattle.caveat_marks.specs.Shown.{ShownRow, InOrder, ById, shown, shown_row, 
 use Rattle.relations.specs.Shown.{sure_rows}
 use Rattle.relations.proofs.Gathered.{then_ok, the_same}
 use Rattle.relations.proofs.Sames.{by_each_id}
+use Rattle.edit_results.specs.Results.{KeepsRules, whole, plain_whole}
+use Rattle.edit_results.proofs.Whole.{whole_is, whole_table}
 use Rattle.row_edits.specs.ByText.{is_text, only, without, is_there, is_place, place_of, after}
 use Rattle.row_edits.specs.Rows.{is_itself, put, moved}
-use Rattle.row_edits.specs.Tables.{KeepsRules, limited, plain_limited, row_id, plain_id, shown_id}
+use Rattle.row_edits.specs.Ids.{row_id, plain_id, shown_id}
 use Rattle.row_edits.specs.Insert.{is_unsure}
 use Rattle.row_edits.specs.Move.{follows_unsure, row_moved, is_lost, move_shown, shown_row_moved}
 use Rattle.row_edits.specs.Laws.{MoveErases, MoveShows, MoveKeepsShown, MoveKeepsRules}
@@ -22,7 +24,7 @@ use Rattle.row_edits.proofs.Mapped.{only_map, without_map, moved_map}
 use Rattle.row_edits.proofs.Sures.{only_filter, without_filter, by_halves}
 use Rattle.row_edits.proofs.Ids.{with_moved, apart, shown_among}
 use Rattle.row_edits.proofs.InsertLaws.{after_shown, hidden_is, by_id_put, loose_is}
-use Rattle.row_edits.proofs.Results.{limited_ok, limited_table, if_ok, rows_erased, keeps_shown}
+use Rattle.row_edits.proofs.Results.{if_ok, rows_erased, keeps_shown}
 
 moved_ok : (row : List ℕ) (place : Option (List ℕ)) (rows out : List Row) → moved row_id row place rows ≡ Ok out →
     (is_place row_id place rows ≡ true) × (put row_id row place rows ≡ out)
@@ -69,15 +71,15 @@ move_rules t row place rows is_loose is e =
 pub move_table : (row : List ℕ) (place : Option (List ℕ)) → MoveKeepsRules row place
 move_table row place t out is e =
     let loose = t.is_loose || follows_unsure row place t.rows in
-    let p = then_ok (moved row_id row place t.rows) (λ rs. limited (table_of t.columns rs t.is_open loose)) out e in
-    limited_table (table_of t.columns p.0 t.is_open loose) out (move_rules t row place p.0 loose is p.1) p.2
+    let p = then_ok (moved row_id row place t.rows) (λ rs. whole (table_of t.columns rs t.is_open loose)) out e in
+    whole_table (table_of t.columns p.0 t.is_open loose) out (move_rules t row place p.0 loose is p.1) p.2
 
 -- ---- erasure
 
 pub move_erases : (row : List ℕ) (place : Option (List ℕ)) → MoveErases row place
 move_erases row place t =
     rows_erased t.columns t.is_open (t.is_loose || follows_unsure row place t.rows) (moved row_id row place t.rows)
-    ∙ ap (λ a. and_then a (λ rows. plain_limited (record { columns = t.columns; rows = rows }))) (moved_map row_id plain_id erased_row (λ r. refl) row place t.rows)
+    ∙ ap (λ a. and_then a (λ rows. plain_whole (record { columns = t.columns; rows = rows }))) (moved_map row_id plain_id erased_row (λ r. refl) row place t.rows)
 
 -- ---- what is shown
 
@@ -154,10 +156,10 @@ module _ (row : List ℕ) (place : Option (List ℕ)) (t : TableData) (there : i
 pub move_shows : (row : List ℕ) (place : Option (List ℕ)) → MoveShows row place
 move_shows row place t out is e =
     let loose = t.is_loose || follows_unsure row place t.rows in
-    let p = then_ok (moved row_id row place t.rows) (λ rs. limited (table_of t.columns rs t.is_open loose)) out e in
+    let p = then_ok (moved row_id row place t.rows) (λ rs. whole (table_of t.columns rs t.is_open loose)) out e in
     let ok = moved_ok row place t.rows p.0 p.1 in
     subst (λ x. shown x ≡ shown_row_moved (shown t) row place)
-    (ap (λ rs. table_of t.columns rs t.is_open loose) ok.1 ∙ limited_ok (table_of t.columns p.0 t.is_open loose) out p.2)
+    (ap (λ rs. table_of t.columns rs t.is_open loose) ok.1 ∙ whole_is (table_of t.columns p.0 t.is_open loose) out p.2)
     (shows row place t ok.0)
 
 -- ---- other picks

@@ -20,16 +20,19 @@ use Rattle.dataset_types.specs.Plain.{erased, erased_row}
 use Rattle.caveat_marks.specs.Shown.{ShownTable, InOrder, ById, shown, shown_row, shown_value, values_at, placed}
 use Rattle.relations.specs.Shown.{sure_rows}
 use Rattle.relations.proofs.Gathered.{fine, then_ok, the_same}
+use Rattle.edit_results.specs.Widening.{fixed_or}
+use Rattle.edit_results.specs.Results.{KeepsRules, whole, plain_whole}
+use Rattle.edit_results.proofs.Whole.{whole_is, whole_table, whole_erased}
 use Rattle.row_edits.specs.declared.columns.Found.{Found}
 use Rattle.row_edits.specs.ByText.{is_text, is_there, changed_at}
-use Rattle.row_edits.specs.Columns.{find_from, find_column, widened_or, value_for}
-use Rattle.row_edits.specs.Tables.{KeepsRules, limited, plain_limited, row_id, plain_id, shown_id}
+use Rattle.row_edits.specs.Columns.{find_from, find_column, value_for}
+use Rattle.row_edits.specs.Ids.{row_id, plain_id, shown_id}
 use Rattle.row_edits.specs.Set.{with_value, value_set, with_plain, set_known, with_known, set_shown, given_or, shown_value_set}
 use Rattle.row_edits.specs.Laws.{SetErases, SetShows, SetKeepsShown, SetKeepsRules}
 use Rattle.row_edits.proofs.PutIn.{filter_map}
 use Rattle.row_edits.proofs.Mapped.{there_map, changed_map}
 use Rattle.row_edits.proofs.Sures.{values_changed}
-use Rattle.row_edits.proofs.Results.{limited_ok, limited_table, limited_erased, if_ok, keeps_shown}
+use Rattle.row_edits.proofs.Results.{if_ok, keeps_shown}
 
 -- ---- values that fit
 
@@ -79,7 +82,7 @@ value_fits kind.Fixed (value.Fixed n) w e = fits_if kind.Fixed (value.Fixed n) w
 value_fits kind.Fixed (value.Text t) w e = fits_if kind.Fixed (value.Text t) w e
 value_fits kind.Fixed (value.Int n) w e = on (widened n) e
   where
-    on : (o : Option ℤ) → widened_or o ≡ Ok w → IsTrue (fits w kind.Fixed)
+    on : (o : Option ℤ) → fixed_or o ≡ Ok w → IsTrue (fits w kind.Fixed)
     on None h = cc
     on (Some count) h = subst (λ z. IsTrue (fits z kind.Fixed)) (the_same (value.Fixed count) w h) refl
 
@@ -166,19 +169,19 @@ record IsSet (row column : List ℕ) (v : Value) (t out : TableData) : Type 0 wh
   value : Value
   finds : find_column t.columns column ≡ Ok found
   fits : value_for found.kind v ≡ Ok value
-  limited : limited (set_in row t found value) ≡ Ok out
+  whole : whole (set_in row t found value) ≡ Ok out
 
 set_ok : (row column : List ℕ) (v : Value) (t out : TableData) → value_set t row column v ≡ Ok out → IsSet row column v t out
 set_ok row column v t out e =
-    let first = then_ok (find_column t.columns column) (λ f. if is_there row_id row t.rows then and_then (value_for f.kind v) (λ w. limited (set_in row t f w)) else Err error.NoRow) out e in
-    let under = if_ok (is_there row_id row t.rows) (and_then (value_for first.0.kind v) (λ w. limited (set_in row t first.0 w))) error.NoRow out first.2 in
-    let next = then_ok (value_for first.0.kind v) (λ w. limited (set_in row t first.0 w)) out under.1 in
-    record { found = first.0; value = next.0; finds = first.1; fits = next.1; limited = next.2 }
+    let first = then_ok (find_column t.columns column) (λ f. if is_there row_id row t.rows then and_then (value_for f.kind v) (λ w. whole (set_in row t f w)) else Err error.NoRow) out e in
+    let under = if_ok (is_there row_id row t.rows) (and_then (value_for first.0.kind v) (λ w. whole (set_in row t first.0 w))) error.NoRow out first.2 in
+    let next = then_ok (value_for first.0.kind v) (λ w. whole (set_in row t first.0 w)) out under.1 in
+    record { found = first.0; value = next.0; finds = first.1; fits = next.1; whole = next.2 }
 
 pub set_table : (row column : List ℕ) (v : Value) → SetKeepsRules row column v
 set_table row column v t out is e =
     let p = set_ok row column v t out e in
-    limited_table (set_in row t p.found p.value) out (set_rules t row column v p.found p.value is p.finds p.fits) p.limited
+    whole_table (set_in row t p.found p.value) out (set_rules t row column v p.found p.value is p.finds p.fits) p.whole
 
 -- ---- erasure
 
@@ -197,26 +200,26 @@ pub set_erases : (row column : List ℕ) (v : Value) → SetErases row column v
 set_erases row column v t = on (find_column t.columns column)
   where
     at_value : (f : Found) (a : Answer Value) →
-        result_map_both erased (λ e. e) (and_then a (λ w. limited (table_of t.columns (changed_at row_id row (with_value f.place w) t.rows) t.is_open t.is_loose)))
-        ≡ and_then a (λ w. plain_limited (record { columns = t.columns; rows = changed_at plain_id row (with_plain f.place w) (map erased_row t.rows) }))
+        result_map_both erased (λ e. e) (and_then a (λ w. whole (table_of t.columns (changed_at row_id row (with_value f.place w) t.rows) t.is_open t.is_loose)))
+        ≡ and_then a (λ w. plain_whole (record { columns = t.columns; rows = changed_at plain_id row (with_plain f.place w) (map erased_row t.rows) }))
     at_value f (Err e) = refl
     at_value f (Ok w) =
-        limited_erased (table_of t.columns (changed_at row_id row (with_value f.place w) t.rows) t.is_open t.is_loose)
-        ∙ ap (λ rs. plain_limited (record { columns = t.columns; rows = rs })) (sym (rows_plain row f.place w t.rows))
+        whole_erased (table_of t.columns (changed_at row_id row (with_value f.place w) t.rows) t.is_open t.is_loose)
+        ∙ ap (λ rs. plain_whole (record { columns = t.columns; rows = rs })) (sym (rows_plain row f.place w t.rows))
 
     under : (f : Found) (b : Bool) →
         result_map_both erased (λ e. e)
-        (if b then and_then (value_for f.kind v) (λ w. limited (table_of t.columns (changed_at row_id row (with_value f.place w) t.rows) t.is_open t.is_loose)) else Err error.NoRow)
-        ≡ (if b then and_then (value_for f.kind v) (λ w. plain_limited (record { columns = t.columns; rows = changed_at plain_id row (with_plain f.place w) (map erased_row t.rows) })) else Err error.NoRow)
+        (if b then and_then (value_for f.kind v) (λ w. whole (table_of t.columns (changed_at row_id row (with_value f.place w) t.rows) t.is_open t.is_loose)) else Err error.NoRow)
+        ≡ (if b then and_then (value_for f.kind v) (λ w. plain_whole (record { columns = t.columns; rows = changed_at plain_id row (with_plain f.place w) (map erased_row t.rows) })) else Err error.NoRow)
     under f true = at_value f (value_for f.kind v)
     under f false = refl
 
     on : (a : Answer Found) →
         result_map_both erased (λ e. e) (and_then a (λ f. if is_there row_id row t.rows then
-        and_then (value_for f.kind v) (λ w. limited (table_of t.columns (changed_at row_id row (with_value f.place w) t.rows) t.is_open t.is_loose))
+        and_then (value_for f.kind v) (λ w. whole (table_of t.columns (changed_at row_id row (with_value f.place w) t.rows) t.is_open t.is_loose))
         else Err error.NoRow))
         ≡ and_then a (λ f. if is_there plain_id row (map erased_row t.rows) then
-        and_then (value_for f.kind v) (λ w. plain_limited (record { columns = t.columns; rows = changed_at plain_id row (with_plain f.place w) (map erased_row t.rows) }))
+        and_then (value_for f.kind v) (λ w. plain_whole (record { columns = t.columns; rows = changed_at plain_id row (with_plain f.place w) (map erased_row t.rows) }))
         else Err error.NoRow)
     on (Err e) = refl
     on (Ok f) = rw (there_map row_id plain_id erased_row (λ r. refl) row t.rows) (under f (is_there row_id row t.rows))
@@ -238,7 +241,7 @@ module _ (row : List ℕ) (n : ℕ) (w : Value) (rows : List Row) where
 pub set_shows : (row column : List ℕ) (v : Value) → SetShows row column v
 set_shows row column v t out is e =
     let p = set_ok row column v t out e in
-    subst (λ x. shown x ≡ shown_value_set (shown t) row column v) (limited_ok (set_in row t p.found p.value) out p.limited)
+    subst (λ x. shown x ≡ shown_value_set (shown t) row column v) (whole_is (set_in row t p.found p.value) out p.whole)
     ((λ i. record { columns = t.columns; rows = in_place row p.found.place p.value t.rows t.is_loose i; is_open = t.is_open; is_loose = t.is_loose })
     ∙ sym (given (find_column t.columns column) p.found p.value p.finds p.fits))
   where

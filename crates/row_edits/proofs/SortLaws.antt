@@ -18,10 +18,11 @@ use Rattle.rel_ops.specs.Sorted.{sorted}
 use Rattle.rel_ops.specs.Sort.{keys_lt, in_order, has_marked_key, ordered, plain_ordered, shown_at_key, has_unknown_key}
 use Rattle.rel_ops.proofs.SortLaws.{sort_erases as order_erases, sort_shows as order_shows, sort_rules as order_rules}
 use Rattle.sheet_commands.specs.declared.sort_names.SortName.{SortName}
+use Rattle.edit_results.proofs.Whole.{whole_is, whole_table, whole_erased}
 use Rattle.row_edits.specs.Sort.{sort_keys, rows_sorted, plain_rel, plain_table, is_astray, sort_shown, shown_rows_sorted}
 use Rattle.row_edits.specs.Set.{given_or}
 use Rattle.row_edits.specs.Laws.{SortErases, SortShows, SortKeepsShown, SortKeepsRules}
-use Rattle.row_edits.proofs.Results.{limited_ok, limited_table, limited_erased, keeps_shown}
+use Rattle.row_edits.proofs.Results.{keeps_shown}
 
 -- ---- the rules
 
@@ -44,13 +45,13 @@ sort_table by t out is e =
     let next = then_ok (ordered (table_rel None t) first.0) rel_table out first.2 in
     let r = next.0 in
     let rules = sorted_rules t first.0 r is next.1 in
-    limited_table (table_of (bare_columns r.columns) r.rows r.is_open r.is_loose) out
+    whole_table (table_of (bare_columns r.columns) r.rows r.is_open r.is_loose) out
     (record { names = sorted_names t first.0 r is next.1; ids = rules.ids; fitting = rules.fitting; sure = rules.sure }) next.2
 
 -- ---- erasure
 
 table_erased : (a : Answer RelData) → result_map_both erased (λ e. e) (and_then a rel_table) ≡ and_then (result_map_both erased_rel (λ e. e) a) plain_table
-table_erased (Ok r) = limited_erased (table_of (bare_columns r.columns) r.rows r.is_open r.is_loose)
+table_erased (Ok r) = whole_erased (table_of (bare_columns r.columns) r.rows r.is_open r.is_loose)
 table_erased (Err e) = refl
 
 pub sort_erases : (by : List SortName) → SortErases by
@@ -95,7 +96,7 @@ sort_shows by t out is e =
     let r = next.0 in
     let same = order_shows keys (table_rel None t) r (table_is_rel None t is) next.1 in
     let seen = sure_rows t.rows in
-    subst (λ x. shown x ≡ shown_rows_sorted (shown t) by) (limited_ok (table_of (bare_columns r.columns) r.rows r.is_open r.is_loose) out next.2)
+    subst (λ x. shown x ≡ shown_rows_sorted (shown t) by) (whole_is (table_of (bare_columns r.columns) r.rows r.is_open r.is_loose) out next.2)
     ((λ i. record {
       columns = (ap bare_columns same.columns ∙ bare_again t.columns) i;
       rows = (same.rows ∙ in_place keys seen t.is_loose) i;

@@ -3,14 +3,18 @@ use Rattle.std.proofs.Common.{◌≡◌, ℕ, suc, Bool, true, false, not, ◌&&
 use Rattle.std.specs.Prelude.{if◌then◌else◌, ◌==◌, Option, Some, None}
 use Rattle.std.proofs.lemmas.Bool.Decides.{Decides-eqb}
 use Rattle.value_types.specs.declared.row_id.RowId.{RowId}
-use Rattle.cell_errors.specs.Answers.{Answer, and_then}
+use Rattle.cell_errors.specs.Answers.{and_then}
 use Rattle.cell_errors.specs.declared.fault.CellError.TheVariants as error
 use Rattle.dataset_types.specs.declared.row.Row.{Row}
-use Rattle.dataset_types.specs.Tables.{TableData, IsTable, table_of, within_limits}
-use Rattle.row_edits.specs.ByText.{is_text, put_in, only, without, is_there, is_place, up_to, place_of, after}
-use Rattle.row_edits.specs.Rows.{is_itself, put, moved, is_in_place}
-use Rattle.row_edits.specs.Move.{follows_unsure, row_moved, stays}
-use Rattle.row_edits.specs.Tables.{limited, row_id}
+use Rattle.dataset_types.specs.Tables.{TableData, IsTable, table_of}
+use Rattle.edit_results.proofs.Whole.{whole_of}
+use Rattle.edit_results.specs.Results.{whole}
+use Rattle.row_edits.specs.ByText.{is_text, put_in, only, without, is_there, up_to, place_of, after}
+use Rattle.row_edits.specs.Rows.{is_itself, put, are_there, moved}
+use Rattle.row_edits.specs.Move.{follows_unsure, row_moved}
+use Rattle.row_edits.specs.Staying.{is_in_place, stays}
+use Rattle.row_edits.specs.Insert.{is_unsure}
+use Rattle.row_edits.specs.Ids.{row_id}
 
 empty : {X : Type 0} (xs : List X) → length xs ≡ 0 → xs ≡ []
 empty [] e = refl
@@ -86,32 +90,51 @@ module _ {R : Type 0} (id_of : R → RowId) where
       on true h = refl
       on false h = at place ((Decides-eqb (up_to id_of row rows) (suc (place_of id_of place rows))).0 h)
 
--- ---- a dataset that stays
+-- ---- a dataset with a row that is put, and one that stays
 
 both : (a b : Bool) → (a && b) ≡ true → (a ≡ true) × (b ≡ true)
 both true b e = (refl, e)
 both false b e = cc
 
-pub row_stays : (t : TableData) (row : List ℕ) (place : Option (List ℕ)) → IsTable t → stays t row place ≡ true → row_moved t row place ≡ Ok t
-row_stays t row place is e =
+-- where both rows are there, the row is put
+pub goes : (row : List ℕ) (place : Option (List ℕ)) (rows : List Row) → are_there row_id row place rows ≡ true →
+    moved row_id row place rows ≡ Ok (put row_id row place rows)
+goes row place rows there = on (are_there row_id row place rows) there
+  where
+    on : (b : Bool) → b ≡ true → (if b then Ok (put row_id row place rows) else Err error.NoRow) ≡ Ok (put row_id row place rows)
+    on true h = refl
+    on false h = cc
+
+-- where both rows are there, the dataset is that with the row put
+pub row_goes : (t : TableData) (row : List ℕ) (place : Option (List ℕ)) → are_there row_id row place t.rows ≡ true →
+    row_moved t row place ≡ whole (table_of t.columns (put row_id row place t.rows) t.is_open (t.is_loose || follows_unsure row place t.rows))
+row_goes t row place there =
+    ap (λ a. and_then a (λ rs. whole (table_of t.columns rs t.is_open (t.is_loose || follows_unsure row place t.rows)))) (goes row place t.rows there)
+
+-- a row that is put after itself stays
+pub apart : (t : TableData) (row : List ℕ) (place : Option (List ℕ)) → stays t row place ≡ false → is_itself row place ≡ false
+apart t row place e = on (is_itself row place) e
+  where
+    loose : (l : Bool) → (l || true) ≡ false → true ≡ false
+    loose true h = h
+    loose false h = h
+
+    on : (b : Bool) →
+        ((b || (up_to row_id row t.rows == suc (place_of row_id place t.rows))) && (t.is_loose || not (not b && is_unsure place t.rows))) ≡ false → b ≡ false
+    on true h = loose t.is_loose h
+    on false h = refl
+
+pub row_stays : (t : TableData) (row : List ℕ) (place : Option (List ℕ)) → IsTable t → are_there row_id row place t.rows ≡ true →
+    stays t row place ≡ true → row_moved t row place ≡ Ok t
+row_stays t row place is there e =
     let unsure = follows_unsure row place t.rows in
     let p = both (is_in_place row_id row place t.rows) _ e in
-    let q = both (is_there row_id row t.rows) _ p.1 in
-    let s = both (is_place row_id place t.rows) _ q.1 in
+    let q = both (is_there row_id row t.rows) _ there in
     let rows = put_stays row_id row place t.rows p.0 q.0 in
-    ap (λ a. and_then a (λ rs. limited (table_of t.columns rs t.is_open (t.is_loose || unsure)))) (found (is_there row_id row t.rows) (is_place row_id place t.rows) q.0 s.0)
-    ∙ (ap limited (λ i. table_of t.columns (rows i) t.is_open (loose t.is_loose unsure s.1 i)) ∙ within (within_limits t) is.limits)
+    row_goes t row place there
+    ∙ (ap whole (λ i. table_of t.columns (rows i) t.is_open (loose t.is_loose unsure p.1 i)) ∙ whole_of t is)
   where
-    found : (a b : Bool) → a ≡ true → b ≡ true → (if a && b then Ok (put row_id row place t.rows) else Err error.NoRow) ≡ Ok (put row_id row place t.rows)
-    found true true h k = refl
-    found true false h k = cc
-    found false b h k = cc
-
     loose : (l u : Bool) → (l || not u) ≡ true → (l || u) ≡ l
     loose true u h = refl
     loose false true h = cc
     loose false false h = refl
-
-    within : (b : Bool) → b ≡ true → (if b then Ok t else Err error.TooLarge) ≡ Ok t
-    within true h = refl
-    within false h = cc

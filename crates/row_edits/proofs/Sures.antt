@@ -9,7 +9,7 @@ use Rattle.value_types.specs.declared.value.Value.{Value}
 use Rattle.value_types.specs.declared.row_id.RowId.{RowId}
 use Rattle.caveat_marks.specs.Shown.{ShownRow, values_at}
 use Rattle.row_edits.specs.ByText.{is_text, put_in, only, without, is_there, up_to, changed_at}
-use Rattle.row_edits.specs.Tables.{shown_id}
+use Rattle.row_edits.specs.Ids.{shown_id}
 use Rattle.row_edits.proofs.PutIn.{here, later, filter_swap, all_kept}
 
 -- ---- rows that pass a test, by their texts

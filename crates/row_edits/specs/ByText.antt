@@ -1,5 +1,6 @@
 -- Rows by the texts of their ids, and lists of rows that are changed there.
-use Rattle.std.specs.Prelude.{ℕ, suc, ◌==◌, ◌++◌, not, Bool, true, if◌then◌else◌, Option, Some, None, List, [], ◌∷◌, length, map, filter, take, drop}
+use Rattle.std.specs.Prelude.{ℕ, suc, ◌==◌, ◌++◌, not, Bool, true, if◌then◌else◌, Option, Some, None}
+use Rattle.std.specs.Prelude.{List, [], ◌∷◌, length, map, filter, take, drop}
 use Rattle.std.specs.List.{list_any}
 use Rattle.std.specs.Str.{bytes_eq}
 use Rattle.value_types.specs.Text.{id}

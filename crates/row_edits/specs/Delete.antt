@@ -6,21 +6,22 @@ use Rattle.dataset_types.specs.Tables.{TableData, table_of}
 use Rattle.dataset_types.specs.Plain.{PlainTable}
 use Rattle.caveat_marks.specs.Shown.{ShownRows, InOrder, ById, ShownTable}
 use Rattle.cell_errors.specs.Answers.{Answer, and_then}
+use Rattle.edit_results.specs.Results.{whole, plain_whole}
 use Rattle.row_edits.specs.ByText.{is_text, without}
 use Rattle.row_edits.specs.Rows.{deleted}
-use Rattle.row_edits.specs.Tables.{limited, plain_limited, row_id, plain_id, shown_id}
+use Rattle.row_edits.specs.Ids.{row_id, plain_id, shown_id}
 
 -- an open dataset stays open
 abbrev pub row_deleted : TableData → List ℕ → Answer TableData
 row_deleted t row =
-    and_then (deleted row_id row t.rows) (λ rows. limited (table_of t.columns rows t.is_open t.is_loose))
+    and_then (deleted row_id row t.rows) (λ rows. whole (table_of t.columns rows t.is_open t.is_loose))
 
 -- ---- without marks
 
 -- the others, in their order
 abbrev pub plain_row_deleted : PlainTable → List ℕ → Answer PlainTable
 plain_row_deleted t row =
-    and_then (deleted plain_id row t.rows) (λ rows. plain_limited (record { columns = t.columns; rows = rows }))
+    and_then (deleted plain_id row t.rows) (λ rows. plain_whole (record { columns = t.columns; rows = rows }))
 
 -- ---- over what is shown
 

@@ -12,9 +12,10 @@ use Rattle.dataset_types.specs.Tables.{TableData, table_of}
 use Rattle.dataset_types.specs.Plain.{PlainRow, PlainTable}
 use Rattle.caveat_marks.specs.Shown.{ShownRow, ShownRows, InOrder, ById, ShownTable, values_at}
 use Rattle.cell_errors.specs.Answers.{Answer, and_then}
+use Rattle.edit_results.specs.Results.{whole, plain_whole}
 use Rattle.row_edits.specs.ByText.{only, is_place, after}
 use Rattle.row_edits.specs.Rows.{inserted}
-use Rattle.row_edits.specs.Tables.{limited, plain_limited, row_id, plain_id, shown_id}
+use Rattle.row_edits.specs.Ids.{row_id, plain_id, shown_id}
 
 -- an unmarked NULL for each column
 abbrev pub nulls : List Column → List Marked
@@ -37,7 +38,7 @@ is_unsure (Some text) rows = any_unsure (only row_id text rows)
 abbrev pub row_inserted : TableData → List ℕ → Option (List ℕ) → Answer TableData
 row_inserted t name place =
     and_then (inserted row_id (null_row name t.columns) place t.rows) (λ rows.
-    limited (table_of t.columns rows t.is_open (t.is_loose || is_unsure place t.rows)))
+    whole (table_of t.columns rows t.is_open (t.is_loose || is_unsure place t.rows)))
 
 -- ---- without marks
 
@@ -49,7 +50,7 @@ plain_null_row name columns = record { id = Named name; values = map (λ _. Null
 abbrev pub plain_row_inserted : PlainTable → List ℕ → Option (List ℕ) → Answer PlainTable
 plain_row_inserted t name place =
     and_then (inserted plain_id (plain_null_row name t.columns) place t.rows) (λ rows.
-    plain_limited (record { columns = t.columns; rows = rows }))
+    plain_whole (record { columns = t.columns; rows = rows }))
 
 -- ---- over what is shown
 

@@ -5,9 +5,9 @@ use Rattle.dataset_types.specs.Tables.{TableData, table_of}
 use Rattle.dataset_types.specs.Plain.{PlainTable}
 use Rattle.caveat_marks.specs.Shown.{ShownRows, InOrder, ById, ShownTable, values_at}
 use Rattle.cell_errors.specs.Answers.{Answer, and_then}
-use Rattle.row_edits.specs.ByText.{is_there, is_place}
-use Rattle.row_edits.specs.Rows.{is_itself, put, moved, is_in_place}
-use Rattle.row_edits.specs.Tables.{limited, plain_limited, row_id, plain_id, shown_id}
+use Rattle.edit_results.specs.Results.{whole, plain_whole}
+use Rattle.row_edits.specs.Rows.{is_itself, put, moved}
+use Rattle.row_edits.specs.Ids.{row_id, plain_id, shown_id}
 use Rattle.row_edits.specs.Insert.{is_unsure, is_hidden}
 
 -- whether it is put after another row that is unsure
@@ -18,22 +18,14 @@ follows_unsure row place rows = not (is_itself row place) && is_unsure place row
 abbrev pub row_moved : TableData → List ℕ → Option (List ℕ) → Answer TableData
 row_moved t row place =
     and_then (moved row_id row place t.rows) (λ rows.
-    limited (table_of t.columns rows t.is_open (t.is_loose || follows_unsure row place t.rows)))
-
--- whether a move leaves a dataset as it is
-abbrev pub stays : TableData → List ℕ → Option (List ℕ) → Bool
-stays t row place =
-    is_in_place row_id row place t.rows
-    && (is_there row_id row t.rows
-    && (is_place row_id place t.rows
-    && (t.is_loose || not (follows_unsure row place t.rows))))
+    whole (table_of t.columns rows t.is_open (t.is_loose || follows_unsure row place t.rows)))
 
 -- ---- without marks
 
 -- the row after another, or first
 abbrev pub plain_row_moved : PlainTable → List ℕ → Option (List ℕ) → Answer PlainTable
 plain_row_moved t row place =
-    and_then (moved plain_id row place t.rows) (λ rows. plain_limited (record { columns = t.columns; rows = rows }))
+    and_then (moved plain_id row place t.rows) (λ rows. plain_whole (record { columns = t.columns; rows = rows }))
 
 -- ---- over what is shown
 

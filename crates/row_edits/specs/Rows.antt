@@ -1,10 +1,10 @@
 -- What the commands make of rows of any kind, or the error.
-use Rattle.std.specs.Prelude.{ℕ, suc, ◌==◌, not, ◌&&◌, ◌||◌, Bool, false, if◌then◌else◌, Option, Some, None, Ok, Err, List, [], ◌∷◌}
+use Rattle.std.specs.Prelude.{ℕ, not, ◌&&◌, Bool, false, if◌then◌else◌, Option, Some, None, Ok, Err, List, [], ◌∷◌}
 use Rattle.std.specs.Str.{bytes_eq}
 use Rattle.value_types.specs.declared.row_id.RowId.{RowId}
 use Rattle.cell_errors.specs.Answers.{Answer}
 use Rattle.cell_errors.specs.declared.fault.CellError.TheVariants as error
-use Rattle.row_edits.specs.ByText.{only, without, is_there, is_place, is_taken, up_to, place_of, after}
+use Rattle.row_edits.specs.ByText.{only, without, is_there, is_place, is_taken, after}
 
 -- whether the row to move and the row that is named are one
 abbrev pub is_itself : List ℕ → Option (List ℕ) → Bool
@@ -26,11 +26,10 @@ module _ {R : Type 0} (id_of : R → RowId) where
   abbrev pub put : List ℕ → Option (List ℕ) → List R → List R
   put row place rows = if is_itself row place then rows else after id_of place (only id_of row rows) (without id_of row rows)
 
-  -- that, where both rows are there
-  abbrev pub moved : List ℕ → Option (List ℕ) → List R → Answer (List R)
-  moved row place rows =
-      if is_there id_of row rows && is_place id_of place rows then Ok (put row place rows) else Err error.NoRow
+  -- whether both rows are there, the second if one is named
+  abbrev pub are_there : List ℕ → Option (List ℕ) → List R → Bool
+  are_there row place rows = is_there id_of row rows && is_place id_of place rows
 
-  -- whether a row is where it is to be put: after itself, or next after the place
-  abbrev pub is_in_place : List ℕ → Option (List ℕ) → List R → Bool
-  is_in_place row place rows = is_itself row place || (up_to id_of row rows == suc (place_of id_of place rows))
+  -- with the row put there, where both rows are there
+  abbrev pub moved : List ℕ → Option (List ℕ) → List R → Answer (List R)
+  moved row place rows = if are_there row place rows then Ok (put row place rows) else Err error.NoRow

@@ -8,9 +8,10 @@ use Rattle.dataset_types.specs.Plain.{PlainRow, PlainTable}
 use Rattle.caveat_marks.specs.Shown.{ShownRow, ShownRows, InOrder, ById, ShownTable}
 use Rattle.cell_errors.specs.Answers.{Answer, and_then}
 use Rattle.cell_errors.specs.declared.fault.CellError.TheVariants as error
+use Rattle.edit_results.specs.Results.{whole, plain_whole}
 use Rattle.row_edits.specs.ByText.{is_text, is_there, changed_at}
 use Rattle.row_edits.specs.Columns.{find_column, value_for}
-use Rattle.row_edits.specs.Tables.{limited, plain_limited, row_id, plain_id, shown_id}
+use Rattle.row_edits.specs.Ids.{row_id, plain_id, shown_id}
 
 -- a row with a value, unmarked, at a place that counts from 0
 abbrev pub with_value : ℕ → Value → Row → Row
@@ -22,7 +23,7 @@ value_set t row column v =
     and_then (find_column t.columns column) (λ found.
     if is_there row_id row t.rows then
     and_then (value_for found.kind v) (λ w.
-    limited (table_of t.columns (changed_at row_id row (with_value found.place w) t.rows) t.is_open t.is_loose))
+    whole (table_of t.columns (changed_at row_id row (with_value found.place w) t.rows) t.is_open t.is_loose))
     else Err error.NoRow)
 
 -- ---- without marks
@@ -37,7 +38,7 @@ plain_value_set t row column v =
     and_then (find_column t.columns column) (λ found.
     if is_there plain_id row t.rows then
     and_then (value_for found.kind v) (λ w.
-    plain_limited (record { columns = t.columns; rows = changed_at plain_id row (with_plain found.place w) t.rows }))
+    plain_whole (record { columns = t.columns; rows = changed_at plain_id row (with_plain found.place w) t.rows }))
     else Err error.NoRow)
 
 -- ---- over what is shown

@@ -12,8 +12,8 @@ use Rattle.relations.specs.Plain.{PlainRel}
 use Rattle.rel_ops.specs.Sorted.{sorted}
 use Rattle.rel_ops.specs.Sort.{keys_lt, ordered, plain_ordered, shown_at_key, has_unknown_key}
 use Rattle.sheet_commands.specs.declared.sort_names.SortName.{SortName}
+use Rattle.edit_results.specs.Results.{plain_whole}
 use Rattle.row_edits.specs.Columns.{find_column}
-use Rattle.row_edits.specs.Tables.{plain_limited}
 use Rattle.row_edits.specs.Set.{given_or}
 
 -- the key of a named column; keys count columns from 1
@@ -37,7 +37,7 @@ plain_rel t = record { columns = map (qualified None) t.columns; rows = t.rows }
 
 -- a relation as a dataset
 abbrev pub plain_table : PlainRel → Answer PlainTable
-plain_table r = plain_limited (record { columns = bare_columns r.columns; rows = r.rows })
+plain_table r = plain_whole (record { columns = bare_columns r.columns; rows = r.rows })
 
 -- the rows in order by the named columns
 abbrev pub plain_rows_sorted : PlainTable → List SortName → Answer PlainTable

@@ -3,7 +3,7 @@ ghost use Rattle.std.specs.Prelude.{◌≡◌, ◌≤◌, IfOk, length};
 ghost use Rattle.row_edits.specs.ByText as spec;
 ghost use Rattle.row_edits.specs.ByText.{only, without};
 ghost use Rattle.row_edits.specs.Insert as insert;
-ghost use Rattle.row_edits.specs.Tables.{row_id};
+ghost use Rattle.row_edits.specs.Ids.{row_id};
 
 use dataset_types::{Row, Rows};
 use std::alloc::Global;

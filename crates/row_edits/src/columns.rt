@@ -5,7 +5,8 @@ ghost use Rattle.row_edits.specs.Columns as spec;
 
 use cell_errors::CellError;
 use dataset_types::{Column, fitted};
-use value_types::{ColumnType, Name, Value, widen};
+use edit_results::as_fixed;
+use value_types::{ColumnType, Name, Value};
 
 /// A column of a dataset.
 #[derive(Clone, Copy)]
@@ -36,10 +37,7 @@ pub(crate) fn value_for(kind: ColumnType, value: Value) -> Result<Value, CellErr
     ensures { result ≡ spec.value_for kind value }
 {
     match (kind, value) {
-        (ColumnType::Fixed, Value::Int(n)) => match widen(n) {
-            Some(count) => Ok(Value::Fixed(count)),
-            None => Err(CellError::Overflow),
-        },
+        (ColumnType::Fixed, Value::Int(n)) => as_fixed(n),
         (kind, value) => fitted(kind, value).ok_or(CellError::TypeFault),
     }
 }

@@ -2,12 +2,12 @@
 ghost use Rattle.cell_errors.specs.Answers.{Gives};
 ghost use Rattle.row_edits.specs.Rows.{deleted};
 ghost use Rattle.row_edits.specs.Delete.{row_deleted};
-ghost use Rattle.row_edits.specs.Tables.{row_id};
+ghost use Rattle.row_edits.specs.Ids.{row_id};
 
 use crate::by_text::{is_there, take_out};
-use crate::whole::limited;
 use cell_errors::{CellError, EvalFault};
 use dataset_types::{Rows, Table};
+use edit_results::whole_table;
 use std::alloc::Global;
 use value_types::{ArcOf, Words};
 
@@ -32,5 +32,5 @@ pub fn delete_row(alloc: Global, table: &Table, row: &Words) -> Result<ArcOf<Tab
     table.law_of_rules();
     let rows = deleted(alloc, row, table.rows())?;
     let columns = table.columns().copy(alloc)?;
-    limited(alloc, columns, rows, table.is_open(), table.is_loose())
+    whole_table(alloc, columns, rows, table.is_open(), table.is_loose())
 }

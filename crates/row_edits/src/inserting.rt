@@ -4,12 +4,12 @@ ghost use Rattle.cell_errors.specs.Answers.{Gives};
 ghost use Rattle.row_edits.specs.ByText as spec;
 ghost use Rattle.row_edits.specs.Rows.{inserted};
 ghost use Rattle.row_edits.specs.Insert.{null_row, row_inserted};
-ghost use Rattle.row_edits.specs.Tables.{row_id};
+ghost use Rattle.row_edits.specs.Ids.{row_id};
 
 use crate::by_text::{is_place, is_unsure, put_after};
-use crate::whole::limited;
 use cell_errors::{CellError, EvalFault};
 use dataset_types::{Column, Marked, MarkedValues, Row, Rows, Table};
+use edit_results::whole_table;
 use std::alloc::Global;
 use value_types::{ArcOf, Name, NoMemory, RowId, Value, Words};
 
@@ -69,7 +69,7 @@ pub fn insert_row(
     let new = null_row(alloc, row, table.columns().as_slice())?;
     let rows = inserted(alloc, new, after, table.rows())?;
     let is_loose = table.is_loose() | is_unsure(alloc, after, table.rows().as_slice())?;
-    limited(
+    whole_table(
         alloc,
         table.columns().copy(alloc)?,
         rows,

@@ -19,7 +19,10 @@ mod tests;
 mod tests_ids;
 #[cfg(test)]
 mod tests_limits;
-mod whole;
+#[cfg(test)]
+mod tests_places;
+#[cfg(test)]
+mod tests_sorting;
 
 pub use deleting::delete_row;
 pub use inserting::insert_row;

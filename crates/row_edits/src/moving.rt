@@ -1,14 +1,15 @@
 //! `move_row`.
-ghost use Rattle.std.specs.Prelude.{◌≡◌, IfOk};
+ghost use Rattle.std.specs.Prelude.{◌≡◌, true, false, IfOk};
 ghost use Rattle.cell_errors.specs.Answers.{Gives};
 ghost use Rattle.row_edits.specs.Rows as spec;
 ghost use Rattle.row_edits.specs.Move as move;
-ghost use Rattle.row_edits.specs.Tables.{row_id};
+ghost use Rattle.row_edits.specs.Staying as stay;
+ghost use Rattle.row_edits.specs.Ids.{row_id};
 
 use crate::by_text::{is_place, is_there, is_unsure, place_of, put_after, take_out, up_to};
-use crate::whole::limited;
 use cell_errors::{CellError, EvalFault};
 use dataset_types::{Row, Rows, Table};
+use edit_results::whole_table;
 use std::alloc::Global;
 use value_types::{ArcOf, NoMemory, Words};
 
@@ -22,22 +23,22 @@ fn is_itself(row: &Words, after: &Option<Words>) -> bool
 }
 
 fn put(alloc: Global, row: &Words, after: &Option<Words>, rows: Rows) -> Result<Rows, NoMemory>
+    requires { spec.is_itself row.now after.now ≡ false }
     ensures { IfOk result (λ all. all ≡ spec.put row_id row.now after.now rows) }
 {
-    if is_itself(row, after) {
-        return Ok(rows);
-    }
     let out = take_out(alloc, row, rows)?;
     put_after(alloc, after, out.taken, out.others)
 }
 
-fn moved(alloc: Global, row: &Words, after: &Option<Words>, rows: &Rows) -> Result<Rows, EvalFault>
-    ensures { Gives result (spec.moved row_id row.now after.now rows.now) }
+fn are_there(
+    alloc: Global,
+    row: &Words,
+    after: &Option<Words>,
+    rows: &[Row],
+) -> Result<bool, NoMemory>
+    ensures { IfOk result (λ b. b ≡ spec.are_there row_id row.now after.now rows.now) }
 {
-    if !is_there(alloc, row, rows.as_slice())? || !is_place(alloc, after, rows.as_slice())? {
-        return Err(EvalFault::Error(CellError::NoRow));
-    }
-    Ok(put(alloc, row, after, rows.copy(alloc)?)?)
+    Ok(is_there(alloc, row, rows)? && is_place(alloc, after, rows)?)
 }
 
 fn follows_unsure(
@@ -51,18 +52,21 @@ fn follows_unsure(
     Ok(!is_itself(row, after) && is_unsure(alloc, after, rows)?)
 }
 
+// Where both rows are there, and the move doesn't leave the dataset as it is.
 fn moved_table(
     alloc: Global,
     table: &Table,
     row: &Words,
     after: &Option<Words>,
 ) -> Result<ArcOf<Table>, EvalFault>
+    requires there { spec.are_there row_id row.now after.now table.now.rows ≡ true }
+    requires apart { spec.is_itself row.now after.now ≡ false }
     ensures { Gives result (move.row_moved table.now row.now after.now) }
 {
     table.law_of_rules();
-    let rows = moved(alloc, row, after, table.rows())?;
+    let rows = put(alloc, row, after, table.rows().copy(alloc)?)?;
     let is_loose = table.is_loose() | follows_unsure(alloc, row, after, table.rows().as_slice())?;
-    limited(
+    whole_table(
         alloc,
         table.columns().copy(alloc)?,
         rows,
@@ -77,20 +81,18 @@ fn is_in_place(
     after: &Option<Words>,
     rows: &[Row],
 ) -> Result<bool, NoMemory>
-    ensures { IfOk result (λ b. b ≡ spec.is_in_place row_id row.now after.now rows.now) }
+    ensures { IfOk result (λ b. b ≡ stay.is_in_place row_id row.now after.now rows.now) }
 {
     Ok(is_itself(row, after) || up_to(alloc, row, rows)? == place_of(alloc, after, rows)? + 1)
 }
 
-// Whether the move leaves the dataset as it is.
+// Whether the move leaves the dataset as it is, where both rows are there.
 fn stays(alloc: Global, row: &Words, after: &Option<Words>, table: &Table) -> Result<bool, NoMemory>
-    ensures { IfOk result (λ b. b ≡ move.stays table.now row.now after.now) }
+    ensures { IfOk result (λ b. b ≡ stay.stays table.now row.now after.now) }
 {
     let rows = table.rows().as_slice();
     Ok(
         is_in_place(alloc, row, after, rows)?
-            && is_there(alloc, row, rows)?
-            && is_place(alloc, after, rows)?
             && (table.is_loose() || !follows_unsure(alloc, row, after, rows)?),
     )
 }
@@ -111,6 +113,9 @@ pub fn move_row(
 {
     let own = table.get();
     own.law_of_rules();
+    if !are_there(alloc, row, after, own.rows().as_slice())? {
+        return Err(EvalFault::Error(CellError::NoRow));
+    }
     if stays(alloc, row, after, own)? {
         return Ok(table.copy(alloc)?);
     }

@@ -3,13 +3,13 @@ ghost use Rattle.std.specs.Prelude.{◌≡◌, ◌<◌, IfOk, OnOk, length, slic
 ghost use Rattle.cell_errors.specs.Answers.{Gives};
 ghost use Rattle.row_edits.specs.ByText.{changed_at};
 ghost use Rattle.row_edits.specs.Set.{with_value, value_set};
-ghost use Rattle.row_edits.specs.Tables.{row_id};
+ghost use Rattle.row_edits.specs.Ids.{row_id};
 
 use crate::by_text::{is_text, is_there};
 use crate::columns::{find_column, value_for};
-use crate::whole::limited;
 use cell_errors::{CellError, EvalFault};
 use dataset_types::{Marked, MarkedValues, Row, Rows, Table};
+use edit_results::{shared_if_same, whole_table};
 use std::alloc::Global;
 use value_types::{ArcOf, Name, NoMemory, Value, Words};
 
@@ -50,13 +50,7 @@ fn with_value_in(
     Ok(all)
 }
 
-/// A dataset with another value, unmarked, in a row's column.
-///
-/// - Shape: the row is given by its id's text. An Int goes into a Fixed column as its widening.
-/// - Error: `NoColumn`, then `NoRow`, then `TypeFault` where the value doesn't fit the column, or `Overflow` where an Int doesn't widen,
-///   then `TooLarge`.
-/// - Source: docs/EDITING.md.
-pub fn set_value(
+fn value_set(
     alloc: Global,
     table: &Table,
     row: &Words,
@@ -73,5 +67,25 @@ pub fn set_value(
     let value = value_for(found.kind, value.copy(alloc)?)?;
     let rows = with_value_in(alloc, row, found.place, &value, table.rows().copy(alloc)?)?;
     let columns = table.columns().copy(alloc)?;
-    limited(alloc, columns, rows, table.is_open(), table.is_loose())
+    whole_table(alloc, columns, rows, table.is_open(), table.is_loose())
+}
+
+/// A dataset with another value, unmarked, in a row's column.
+///
+/// - Shape: the row is given by its id's text. An Int goes into a Fixed column as its widening. Where the value stands there unmarked,
+///   the dataset is the same one, shared once more.
+/// - Error: `NoColumn`, then `NoRow`, then `TypeFault` where the value doesn't fit the column, or `Overflow` where an Int doesn't widen,
+///   then `TooLarge`.
+/// - Source: docs/EDITING.md.
+pub fn set_value(
+    alloc: Global,
+    table: &ArcOf<Table>,
+    row: &Words,
+    column: &Name,
+    value: &Value,
+) -> Result<ArcOf<Table>, EvalFault>
+    ensures { Gives result (value_set table.now row.now column.now value.now) }
+{
+    let made = value_set(alloc, table.get(), row, column, value)?;
+    Ok(shared_if_same(alloc, table, made)?)
 }

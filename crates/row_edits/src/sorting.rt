@@ -7,6 +7,7 @@ ghost use Rattle.row_edits.specs.Sort.{rows_sorted};
 use crate::columns::find_column;
 use cell_errors::EvalFault;
 use dataset_types::{Column, Table};
+use edit_results::shared_if_same;
 use rel_ops::sort as sort_rel;
 use relations::{Rel, SortKey, SortKeys};
 use sheet_commands::{SortName, SortNames};
@@ -36,12 +37,7 @@ fn sort_keys(alloc: Global, columns: &[Column], by: &[SortName]) -> Result<SortK
     Ok(keys)
 }
 
-/// A dataset with its rows in the order of named columns, as ORDER BY gives it.
-///
-/// - Marks: loose where it was, or where a sure row is placed by a marked value.
-/// - Error: `NoColumn` where a named column isn't there.
-/// - Source: docs/EDITING.md; docs/SELECT.md.
-pub fn sort(alloc: Global, table: &Table, by: &SortNames) -> Result<ArcOf<Table>, EvalFault>
+fn rows_sorted(alloc: Global, table: &Table, by: &SortNames) -> Result<ArcOf<Table>, EvalFault>
     ensures { Gives result (rows_sorted table.now by.now) }
 {
     table.law_of_rules();
@@ -49,4 +45,17 @@ pub fn sort(alloc: Global, table: &Table, by: &SortNames) -> Result<ArcOf<Table>
     let rel = Rel::of_table(alloc, table, &None)?;
     let sorted = sort_rel(alloc, rel, &keys)?.into_table(alloc)?;
     Ok(ArcOf::new(alloc, sorted)?)
+}
+
+/// A dataset with its rows in the order of named columns, as ORDER BY gives it.
+///
+/// - Shape: where the rows are in that order and no flag changes, the dataset is the same one, shared once more.
+/// - Marks: loose where it was, or where a sure row is placed by a marked value.
+/// - Error: `NoColumn` where a named column isn't there.
+/// - Source: docs/EDITING.md; docs/SELECT.md.
+pub fn sort(alloc: Global, table: &ArcOf<Table>, by: &SortNames) -> Result<ArcOf<Table>, EvalFault>
+    ensures { Gives result (rows_sorted table.now by.now) }
+{
+    let made = rows_sorted(alloc, table.get(), by)?;
+    Ok(shared_if_same(alloc, table, made)?)
 }

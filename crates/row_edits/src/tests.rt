@@ -4,13 +4,12 @@
 ghost use Rattle.std.specs.Prelude.{IfOk};
 ghost use Rattle.dataset_types.specs.Tables.{Distinct, row_ids};
 
-use crate::{delete_row, insert_row, move_row, set_value, sort};
+use crate::{delete_row, insert_row, move_row, set_value};
 use cell_errors::{CellError, EvalFault};
 use dataset_types::{
     Column, Columns, Marked, MarkedValues, Row, Rows, Table, all_sure, law_of_numbers,
     names_distinct, rows_fit,
 };
-use sheet_commands::{SortName, SortNames};
 use std::alloc::Global;
 use std::process::Abort;
 use std::test::*;
@@ -104,7 +103,7 @@ pub(crate) fn made(
 }
 
 // Both rows are sure.
-fn prices(rt: &impl Abort, alloc: Global) -> Result<ArcOf<Table>, EvalFault> {
+pub(crate) fn prices(rt: &impl Abort, alloc: Global) -> Result<ArcOf<Table>, EvalFault> {
     let columns = columns(alloc)?;
     let rows = rows(alloc, true)?;
     assert!(rt; names_distinct(columns.as_slice()));
@@ -114,7 +113,7 @@ fn prices(rt: &impl Abort, alloc: Global) -> Result<ArcOf<Table>, EvalFault> {
 }
 
 // The second row is unsure.
-fn surplus(rt: &impl Abort, alloc: Global) -> Result<ArcOf<Table>, EvalFault> {
+pub(crate) fn surplus(rt: &impl Abort, alloc: Global) -> Result<ArcOf<Table>, EvalFault> {
     let columns = columns(alloc)?;
     let rows = rows(alloc, false)?;
     assert!(rt; names_distinct(columns.as_slice()));
@@ -234,7 +233,7 @@ pub(crate) fn deleted(
     delete_row(alloc, table.get(), &words(alloc, row)?)
 }
 
-fn moved(
+pub(crate) fn moved(
     alloc: Global,
     table: &ArcOf<Table>,
     row: &str,
@@ -320,13 +319,7 @@ pub(crate) fn set(
     column: &str,
     value: &Value,
 ) -> Result<ArcOf<Table>, EvalFault> {
-    set_value(
-        alloc,
-        table.get(),
-        &words(alloc, row)?,
-        &named(column)?,
-        value,
-    )
+    set_value(alloc, table, &words(alloc, row)?, &named(column)?, value)
 }
 
 #[test]
@@ -345,45 +338,27 @@ fn a_value_is_set_without_a_mark(rt: HostRuntime) -> Result<(), Fail> {
             "#1 1 2.5000; #2 2 922337203685477.0000; ",
         ),
         ("#2", "price", &Value::Int(922_337_203_685_478), "Overflow"),
+        (
+            "#2",
+            "price",
+            &Value::Int(-922_337_203_685_477),
+            "#1 1 2.5000; #2 2 -922337203685477.0000; ",
+        ),
+        ("#2", "price", &Value::Int(-922_337_203_685_478), "Overflow"),
+        ("#3", "price", &Value::Int(i64::MAX), "NoRow"),
+        ("#2", "m", &Value::Int(i64::MAX), "NoColumn"),
         ("#1", "n", &three, "#1 3 2.5000; #2 2 ~null; "),
         ("#1", "price", &three, "#1 1 3.0000; #2 2 ~null; "),
         ("#2", "n", &three, "#1 1 2.5000; #2 3 ~null; "),
         ("#1", "n", &text, "TypeFault"),
         ("#3", "n", &text, "NoRow"),
         ("#3", "m", &text, "NoColumn"),
+        ("#1", "m", &text, "NoColumn"),
     ];
     for (row, column, value, want) in cases {
         assert!(rt;
             gives(alloc, &set(alloc, &table, row, column, value), want),
             "{row} {column}"
-        );
-    }
-    Ok(())
-}
-
-fn sorted(alloc: Global, table: &ArcOf<Table>, column: &str) -> Result<ArcOf<Table>, EvalFault> {
-    let mut by = SortNames::new(alloc)?;
-    let name = named(column)?;
-    let descending = true;
-    by.push(alloc, SortName { name, descending })?;
-    sort(alloc, table.get(), &by)
-}
-
-#[test]
-fn rows_are_sorted_by_named_columns(rt: HostRuntime) -> Result<(), Fail> {
-    let alloc = rt.alloc();
-    let sure = prices(&rt, alloc).expect(&rt, "memory");
-    let open = surplus(&rt, alloc).expect(&rt, "memory");
-    let cases = [
-        (&sure, "n", "#2 2 ~null; #1 1 2.5000; "),
-        (&sure, "price", "#1 1 2.5000; #2 2 ~null; loose "),
-        (&open, "price", "#1 1 2.5000; ?#2 2 ~null; open "),
-        (&open, "m", "NoColumn"),
-    ];
-    for (table, column, want) in cases {
-        assert!(rt;
-            gives(alloc, &sorted(alloc, table, column), want),
-            "{column}"
         );
     }
     Ok(())

@@ -11,7 +11,7 @@ use std::process::Abort;
 use std::test::*;
 use value_types::{ArcOf, NoMemory, RowId, Value, Values};
 
-fn key(alloc: Global) -> Result<RowId, NoMemory> {
+pub(crate) fn key(alloc: Global) -> Result<RowId, NoMemory> {
     let mut key = Values::new(alloc)?;
     key.push(alloc, Value::Text(words(alloc, "k")?))?;
     key.push(alloc, Value::Int(-2))?;
@@ -20,30 +20,30 @@ fn key(alloc: Global) -> Result<RowId, NoMemory> {
 }
 
 // The id of a row that was joined with a group's.
-fn pair(alloc: Global) -> Result<RowId, NoMemory> {
+pub(crate) fn pair(alloc: Global) -> Result<RowId, NoMemory> {
     let left = Boxed::new(alloc, RowId::Rec(1))?;
     let right = Boxed::new(alloc, key(alloc)?)?;
     Ok(RowId::Pair(left, right))
 }
 
-fn inserted_id() -> Result<RowId, NoMemory> {
+pub(crate) fn inserted_id() -> Result<RowId, NoMemory> {
     Ok(RowId::Named(named("new")?))
 }
 
-fn alone(alloc: Global) -> Result<RowId, NoMemory> {
+pub(crate) fn alone(alloc: Global) -> Result<RowId, NoMemory> {
     Ok(RowId::Alone(Boxed::new(alloc, RowId::Rec(12))?))
 }
 
-fn first(alloc: Global) -> Result<RowId, NoMemory> {
+pub(crate) fn first(alloc: Global) -> Result<RowId, NoMemory> {
     Ok(RowId::First(Boxed::new(alloc, pair(alloc)?)?))
 }
 
-fn second(alloc: Global) -> Result<RowId, NoMemory> {
+pub(crate) fn second(alloc: Global) -> Result<RowId, NoMemory> {
     Ok(RowId::Second(Boxed::new(alloc, RowId::Emit(3))?))
 }
 
 #[tactic(auto, using(crate::proofs::Ids::one_id))]
-fn one_row(alloc: Global, row: Row) -> Result<Rows, NoMemory>
+pub(crate) fn one_row(alloc: Global, row: Row) -> Result<Rows, NoMemory>
     ensures { IfOk result (λ rows. Distinct (row_ids rows)) }
 {
     let mut rows = Rows::new(alloc)?;

@@ -1,4 +1,4 @@
-//! Results at the limit of text, and beyond it.
+//! Results at the limits of text, rows and values, and beyond them.
 ghost use Rattle.std.specs.Prelude.{IfOk};
 ghost use Rattle.dataset_types.specs.Tables.{Distinct, row_ids};
 
@@ -106,4 +106,105 @@ fn the_id_of_a_new_row_counts_as_text(rt: HostRuntime) {
             "TooLarge"
         )
     );
+}
+
+// Full to the last byte, with a row `@z`.
+fn full(rt: &impl Abort, alloc: Global) -> Result<ArcOf<Table>, EvalFault> {
+    filled_and_inserted(rt, alloc, HALF - 4)
+}
+
+#[test]
+fn a_row_that_is_not_there_or_is_there_already_is_told_before_the_limit(
+    rt: HostRuntime,
+) -> Result<(), Fail> {
+    let alloc = rt.alloc();
+    let table = full(&rt, alloc).expect(&rt, "memory");
+    for (row, after, want) in [
+        ("y", "#1", "TooLarge"),
+        ("y", "#9", "NoRow"),
+        ("z", "#1", "RowTaken"),
+        ("z", "#9", "NoRow"),
+    ] {
+        assert!(rt;
+            gives(alloc, &inserted(alloc, &table, row, after), want),
+            "{row} after {after}"
+        );
+    }
+    Ok(())
+}
+
+// Unmarked NULLs.
+fn nulls(alloc: Global, count: usize) -> Result<MarkedValues, NoMemory> {
+    let mut values = MarkedValues::new(alloc)?;
+    for _ in 0..count {
+        let value = Value::Null;
+        let marked = false;
+        values.push(alloc, Marked { value, marked })?;
+    }
+    Ok(values)
+}
+
+// As many rows, numbered from 1.
+#[tactic(auto, using(dataset_types::proofs::TableLemmas::numbered_push, dataset_types::proofs::TableLemmas::distinct_numbered))]
+fn numbered_rows(alloc: Global, count: u32, width: usize) -> Result<Rows, NoMemory>
+    ensures { IfOk result (λ rows. Distinct (row_ids rows)) }
+{
+    let mut rows = Rows::new(alloc)?;
+    for n in 0..count {
+        let values = nulls(alloc, width)?;
+        rows.push(
+            alloc,
+            Row {
+                id: RowId::Rec(n + 1),
+                sure: true,
+                values,
+            },
+        )?;
+    }
+    Ok(rows)
+}
+
+fn many(
+    rt: &impl Abort,
+    alloc: Global,
+    columns: Columns,
+    count: u32,
+) -> Result<ArcOf<Table>, EvalFault> {
+    let rows = numbered_rows(alloc, count, columns.len())?;
+    assert!(rt; names_distinct(columns.as_slice()));
+    assert!(rt; rows_fit(columns.as_slice(), rows.as_slice()));
+    assert!(rt; all_sure(rows.as_slice()));
+    made(alloc, Table::new(alloc, columns, rows, false, false))
+}
+
+// A row more in a dataset of so many rows.
+fn one_more(
+    rt: &impl Abort,
+    alloc: Global,
+    columns: Columns,
+    count: u32,
+) -> Result<ArcOf<Table>, EvalFault> {
+    inserted(alloc, &many(rt, alloc, columns, count)?, "z", "#2")
+}
+
+fn one_more_of_two(rt: &impl Abort, alloc: Global, count: u32) -> Result<ArcOf<Table>, EvalFault> {
+    one_more(rt, alloc, columns(alloc)?, count)
+}
+
+fn one_more_of_none(rt: &impl Abort, alloc: Global, count: u32) -> Result<ArcOf<Table>, EvalFault> {
+    one_more(rt, alloc, Columns::new(alloc)?, count)
+}
+
+#[test]
+fn there_are_65_536_values_at_most(rt: HostRuntime) {
+    let alloc = rt.alloc();
+    assert!(rt; one_more_of_two(&rt, alloc, 32_767).is_ok());
+    assert!(rt; gives(alloc, &one_more_of_two(&rt, alloc, 32_768), "TooLarge"));
+}
+
+#[test]
+fn there_are_65_536_rows_at_most(rt: HostRuntime) {
+    let alloc = rt.alloc();
+    assert!(rt; one_more_of_none(&rt, alloc, 65_535).is_ok());
+    assert!(rt; gives(alloc, &one_more_of_none(&rt, alloc, 65_536), "TooLarge"));
 }

@@ -62,7 +62,7 @@ impl<'a> Edit for ByFormula<'a> {
     fn run(&self, alloc: Global, table: &ArcOf<Table>) -> Result<ArcOf<Table>, EvalFault> {
         formula(
             alloc,
-            table.get(),
+            table,
             self.column,
             self.expr,
             self.picks,
@@ -93,8 +93,8 @@ fn table_edit(
             column,
             value,
             ..
-        } => set_value(alloc, own, row, column, value),
-        Command::Sort { by, .. } => sort(alloc, own, by),
+        } => set_value(alloc, table, row, column, value),
+        Command::Sort { by, .. } => sort(alloc, table, by),
         Command::Formula { .. }
         | Command::RenameDataset { .. }
         | Command::CopyDataset { .. }

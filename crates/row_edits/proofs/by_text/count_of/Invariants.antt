@@ -1,6 +1,6 @@
 use Rattle.std.proofs.Common.{◌≡◌, ◌≤◌, ◌+◌, drop, length}
 use Rattle.row_edits.specs.ByText.{only}
-use Rattle.row_edits.specs.Tables.{row_id}
+use Rattle.row_edits.specs.Ids.{row_id}
 use Rattle.row_edits.proofs.by_text.count_of.Given as goal
 
 abbrev pub invariant-loop-row : goal.invariant-loop-row

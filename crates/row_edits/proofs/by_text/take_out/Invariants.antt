@@ -1,7 +1,7 @@
 use Rattle.std.proofs.Common.{◌≡◌, ◌++◌}
 use Rattle.std.specs.Vec.Iter.{into_iter_items}
 use Rattle.row_edits.specs.ByText.{only, without}
-use Rattle.row_edits.specs.Tables.{row_id}
+use Rattle.row_edits.specs.Ids.{row_id}
 use Rattle.row_edits.proofs.by_text.take_out.Given as goal
 
 abbrev pub invariant-loop-row : goal.invariant-loop-row

@@ -2,7 +2,7 @@ use Rattle.std.proofs.Common.{◌≡◌, ◌++◌}
 use Rattle.std.specs.Vec.Iter.{into_iter_items}
 use Rattle.row_edits.specs.ByText.{changed_at}
 use Rattle.row_edits.specs.Set.{with_value}
-use Rattle.row_edits.specs.Tables.{row_id}
+use Rattle.row_edits.specs.Ids.{row_id}
 use Rattle.row_edits.proofs.setting.with_value_in.Given as goal
 
 abbrev pub invariant-loop-one : goal.invariant-loop-one

@@ -1,7 +1,7 @@
 use Rattle.std.proofs.lemmas.Result.{err_from_is_err_and}
 use Rattle.column_edits.proofs.TableRules.{formula_rules}
 use Rattle.column_edits.proofs.FormulaCalls.{formula_stops, formula_goes}
-use Rattle.column_edits.proofs.computing.formula.Goals as goal
+use Rattle.column_edits.proofs.computing.computed.Goals as goal
 
 pub returns-in_err-rows : goal.returns-in_err-rows
 returns-in_err-rows c =

@@ -1,5 +1,5 @@
 use Rattle.row_edits.proofs.SortLaws.{sorted_names}
-use Rattle.row_edits.proofs.sorting.sort.Goals as goal
+use Rattle.row_edits.proofs.sorting.rows_sorted.Goals as goal
 
 pub into_table-requires : goal.into_table-requires
 into_table-requires c = record {
