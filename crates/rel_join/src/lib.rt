@@ -13,6 +13,8 @@ mod lone;
 mod pairs;
 #[cfg(test)]
 mod tests;
+#[cfg(test)]
+mod tests_marks;
 
 pub use apart::are_apart;
 pub use joining::{join, left_join};

@@ -21,17 +21,17 @@ use value_types::{
 
 /// A dataset of two rows with a number each, or of none.
 #[derive(Clone, Copy)]
-struct Side {
-    numbers: Option<(i64, i64)>,
+pub(crate) struct Side {
+    pub numbers: Option<(i64, i64)>,
     /// Whether the second number has a caveat.
-    marked: bool,
+    pub marked: bool,
     /// Whether the second row is sure.
-    sure: bool,
-    is_open: bool,
-    is_loose: bool,
+    pub sure: bool,
+    pub is_open: bool,
+    pub is_loose: bool,
 }
 
-fn closed(n: i64, m: i64) -> Side {
+pub(crate) fn closed(n: i64, m: i64) -> Side {
     Side {
         numbers: Some((n, m)),
         marked: false,
@@ -193,7 +193,14 @@ fn shows_by(
 }
 
 /// Whether the join of two sides by equal numbers is shown so.
-fn shows(rt: &impl Abort, alloc: Global, kind: Kind, left: Side, right: Side, want: &str) -> bool {
+pub(crate) fn shows(
+    rt: &impl Abort,
+    alloc: Global,
+    kind: Kind,
+    left: Side,
+    right: Side,
+    want: &str,
+) -> bool {
     let on = (BinaryOp::Equal, "a", "b");
     shows_by(rt, kind, (left, right), on, alloc, want)
 }
