@@ -5,9 +5,9 @@
 
 The program runs twice for each: with a notebook that loads the tables and drops them again, and with the cell that is
 measured put between the two. The difference of the best times is the cell and the printing of what it leaves. sqlite3
-has the same tables in memory, and the time is that of the query and the fetch of its rows. Each is measured on a quarter
-of its rows too, and the growth told. A command is set beside `rename_column`, which copies each row of its dataset once and
-does no more.
+has the same tables in memory, its prices as whole hundredths, and the time is that of the query and the fetch of its
+rows. Before a query is timed, both must give as many rows. Each is measured on a quarter of its rows too, and the growth
+told. A command is set beside `rename_column`, which copies each row of its dataset once and does no more.
 """
 import json
 import os
@@ -36,6 +36,12 @@ QUERIES = [
     ("a join with eight rows", JOINED, "SELECT t.id AS id, u.name AS name FROM t JOIN u ON t.shop = u.shop"),
 ]
 
+# What sqlite3 is asked for the same answer where its prices, in hundredths, want another text.
+IN_HUNDREDTHS = {
+    "WHERE": "SELECT id FROM t WHERE price > 9000",
+    "a computed column": "SELECT id, price * 2 + 100 AS p FROM t",
+}
+
 COMMANDS = [
     ("rename_column", ROWS, {"name": "price", "to": "cost"}),
     ("copy_dataset", ROWS, {"to": "q"}),
@@ -56,20 +62,36 @@ def line(kind, cell, **more):
     return json.dumps(dict(edit=kind, branch="main", cell=cell, **more)) + "\n"
 
 
+def report(program, folder, stream):
+    """What the program writes for a stream."""
+    out = subprocess.run([program, "serial"], input=stream.encode(), cwd=folder, stdout=subprocess.PIPE)
+    if out.returncode != 0 or b" error " in out.stdout:
+        sys.exit("the program failed: %s" % [l for l in out.stdout.split(b"\n") if b" error " in l])
+    return out.stdout
+
+
 def best(program, folder, stream):
+    """The least time in which the program reads a stream and writes its report."""
     times = []
     for _ in range(RUNS):
         began = time.perf_counter()
-        out = subprocess.run([program, "serial"], input=stream.encode(), cwd=folder, stdout=subprocess.PIPE)
+        report(program, folder, stream)
         times.append(time.perf_counter() - began)
-        if out.returncode != 0 or b" error " in out.stdout:
-            sys.exit("the program failed: %s" % [l for l in out.stdout.split(b"\n") if b" error " in l])
     return min(times)
 
 
+def count_in_last_block(written, name):
+    """The number of rows of a dataset in the last block of a report."""
+    last = written[written.rindex(b"version "):]
+    dataset = last[last.index(b"dataset " + name.encode()):].split(b"\n")
+    rows = dataset[2:]
+    return next(place for place, line in enumerate(rows) if not line.startswith(b"  "))
+
+
 def tables(rows):
+    """The rows of t, with prices in hundredths, and those of u."""
     numbers = random.Random(7)
-    t = [(i + 1, numbers.randrange(8), numbers.randrange(1000000)) for i in range(rows)]
+    t = [(i + 1, numbers.randrange(8), numbers.randrange(10000)) for i in range(rows)]
     u = [(i, "shop%d" % i) for i in range(8)]
     return t, u
 
@@ -89,20 +111,32 @@ class Tables:
         self.folder = tempfile.mkdtemp(prefix="vizier-queries-", dir="/dev/shm" if os.path.isdir("/dev/shm") else None)
         t, u = tables(rows)
         with open(os.path.join(self.folder, "t.csv"), "w") as file:
-            file.write("id,shop,price\n" + "".join("%d,%d,%.2f\n" % (i, s, p / 10000) for i, s, p in t))
+            file.write("id,shop,price\n" + "".join("%d,%d,%d.%02d\n" % (i, s, p // 100, p % 100) for i, s, p in t))
         with open(os.path.join(self.folder, "u.csv"), "w") as file:
             file.write("shop,name\n" + "".join("%d,%s\n" % row for row in u))
         self.beside = sqlite3.connect(":memory:")
         self.beside.execute("CREATE TABLE t (id INTEGER, shop INTEGER, price INTEGER)")
         self.beside.execute("CREATE TABLE u (shop INTEGER, name TEXT)")
-        self.beside.executemany("INSERT INTO t VALUES (?, ?, ?)", [(i, s, p // 100) for i, s, p in t])
+        self.beside.executemany("INSERT INTO t VALUES (?, ?, ?)", t)
         self.beside.executemany("INSERT INTO u VALUES (?, ?)", u)
         self.start = base(["t", "u"])
         self.empty = best(program, self.folder, self.start)
 
+    def with_cell(self, cell):
+        """The stream with a cell before the tables are dropped; what it makes of them is not dropped."""
+        return self.start + line("insert", cell, at=3)
+
     def cell(self, cell):
         """The time that a cell adds."""
-        return best(self.program, self.folder, self.start + line("insert", cell, at=3)) - self.empty
+        return best(self.program, self.folder, self.with_cell(cell)) - self.empty
+
+    def agree(self, name, cell, text):
+        """Ends everything where a query and that of sqlite3 don't give as many rows."""
+        ours = count_in_last_block(report(self.program, self.folder, self.with_cell(cell)), cell["into"])
+        theirs = len(self.beside.execute(text).fetchall())
+        if ours != theirs:
+            sys.exit("%s: the program gives %d rows and sqlite3 %d, so their times can't be compared; sqlite3 was asked\n  %s"
+                     % (name, ours, theirs, text))
 
     def query(self, text):
         """The time of sqlite3 for a query."""
@@ -120,7 +154,7 @@ class Tables:
 
 def measured(program):
     """The name, the number of rows, the times of a cell on a quarter of them and on all, and that of sqlite3 on all."""
-    cells = [(name, rows, {"sql": text, "into": "q"}, text) for name, rows, text in QUERIES]
+    cells = [(name, rows, {"sql": text, "into": "q"}, IN_HUNDREDTHS.get(name, text)) for name, rows, text in QUERIES]
     cells += [(name, rows, dict(vizual=name, dataset="t", **more), None) for name, rows, more in COMMANDS]
     there = {}
     try:
@@ -128,6 +162,8 @@ def measured(program):
             for count in (rows // 4, rows):
                 if count not in there:
                     there[count] = Tables(program, count)
+                if text is not None:
+                    there[count].agree(name, cell, text)
             yield (name, rows, there[rows // 4].cell(cell), there[rows].cell(cell),
                    None if text is None else there[rows].query(text))
     finally:
