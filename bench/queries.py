@@ -6,8 +6,8 @@
 The program runs twice for each: with a notebook that loads the tables and drops them again, and with the cell that is
 measured put between the two. The difference of the best times is the cell and the printing of what it leaves. sqlite3
 has the same tables in memory, its prices as whole hundredths, and the time is that of the query and the fetch of its
-rows. Before a query is timed, both must give as many rows. Each is measured on a quarter of its rows too, and the growth
-told. A command is set beside `rename_column`, which copies each row of its dataset once and does no more.
+rows. Before a query is timed, both must give as many rows. Each is measured on a quarter of its rows too, and the
+growth told. A command is set beside `rename_column`, which copies each row of its dataset once and does no more.
 """
 import json
 import os
@@ -135,8 +135,8 @@ class Tables:
         ours = count_in_last_block(report(self.program, self.folder, self.with_cell(cell)), cell["into"])
         theirs = len(self.beside.execute(text).fetchall())
         if ours != theirs:
-            sys.exit("%s: the program gives %d rows and sqlite3 %d, so their times can't be compared; sqlite3 was asked\n  %s"
-                     % (name, ours, theirs, text))
+            sys.exit("%s: the program gives %d rows and sqlite3 %d, so their times can't be compared\n  %s\n  %s"
+                     % (name, ours, theirs, cell["sql"], text))
 
     def query(self, text):
         """The time of sqlite3 for a query."""
