@@ -370,3 +370,26 @@ fn a_fault_in_a_long_block_leaves_what_was_written_before(rt: HostRuntime) -> Re
     }
     Ok(())
 }
+
+#[test]
+fn a_name_that_was_dropped_has_a_line_once_all_is_in_doubt(rt: HostRuntime) -> Result<(), Fail> {
+    let alloc = rt.alloc();
+    let mut env = Env::new(alloc)?;
+    set(alloc, &mut env, "u", false, None)?;
+    env.blur(alloc)?;
+    let mut settled = settled_of(alloc, env)?;
+    add_cell(&rt, alloc, &mut settled, 1, CellStatus::Ok, &[])?;
+    is_block(
+        &rt,
+        alloc,
+        1,
+        &settled,
+        "version 1 main
+cell 1 #1 ok
+absent ?u
+absent ?*
+end 1
+",
+    )?;
+    Ok(())
+}

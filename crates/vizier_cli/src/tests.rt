@@ -231,26 +231,46 @@ fn a_load_is_refused_where_the_shelf_fails_and_else_has_its_picks(
     Ok(())
 }
 
+/// The line of the plainest edit with one byte of it changed, and two whole lines after it.
+fn damaged(alloc: Global, at: usize, byte: u8) -> Result<Vec<u8>, NoMemory> {
+    let mut stream = EDIT.as_bytes().to_vec(alloc)?;
+    if let Some(place) = stream.get_mut(at) {
+        *place = byte;
+    }
+    stream.extend_from_slice(b"\n{\"edit\":\"branch\",\"branch\":\"b\",\"from\":0}\n")?;
+    stream.extend_from_slice(EDIT.as_bytes())?;
+    Ok(stream)
+}
+
+/// What is written of a stream over objects that never fail, where the program ends with Done.
+fn report_of(alloc: Global, stream: &[u8]) -> Result<Option<Vec<u8>>, NoMemory> {
+    let mut pieces = Pieces::new(alloc)?;
+    pieces.push(alloc, Bytes::from_slice(alloc, stream)?)?;
+    let mut source = SteadySource::new(pieces);
+    let mut shelf = SteadyShelf::new(Files::new(alloc)?);
+    let mut sink = SteadySink::new(alloc)?;
+    let words = words_of(alloc, &["serial"])?;
+    match vizier_serial(alloc, words.as_slice(), &mut source, &mut shelf, &mut sink) {
+        Status::Done => Ok(Some(sink.written().to_vec(alloc)?)),
+        _ => Ok(None),
+    }
+}
+
+// A byte that is no UTF-8, one quote too many, and a control byte, where the line had another.
 #[test]
 fn a_stream_in_which_any_byte_is_damaged_has_a_report(rt: HostRuntime) -> Result<(), Fail> {
     let alloc = rt.alloc();
-    let words = words_of(alloc, &["serial"])?;
-    for at in 0..EDIT.len() {
-        let mut bytes = EDIT.as_bytes().to_vec(alloc)?;
-        bytes[at] = 255;
-        bytes.extend_from_slice(b"\n{\"edit\":\"branch\",\"branch\":\"b\",\"from\":0}\n")?;
-        bytes.extend_from_slice(EDIT.as_bytes())?;
-        let mut pieces = Pieces::new(alloc)?;
-        pieces.push(alloc, Bytes::from_slice(alloc, bytes.as_slice())?)?;
-        let mut source = SteadySource::new(pieces);
-        let mut shelf = SteadyShelf::new(Files::new(alloc)?);
-        let mut sink = SteadySink::new(alloc)?;
-        let status = vizier_serial(alloc, words.as_slice(), &mut source, &mut shelf, &mut sink);
-        assert_eq!(rt; status, Status::Done);
-        let mut want = String::from_str(alloc, "line 1 refused E1 BadJson\n")?;
-        want.push_str("line 2 refused E4 NoVersion\n")?;
-        want.push_str(BLOCK)?;
-        assert_eq!(rt; sink.written(), want.as_bytes(), "byte {at}");
+    let mut want = String::from_str(alloc, "line 1 refused E1 BadJson\n")?;
+    want.push_str("line 2 refused E4 NoVersion\n")?;
+    want.push_str(BLOCK)?;
+    for byte in [255, b'"', 0] {
+        for at in 0..EDIT.len() {
+            if EDIT.as_bytes()[at] != byte {
+                let stream = damaged(alloc, at, byte)?;
+                let report = report_of(alloc, &stream)?;
+                assert_eq!(rt; report.as_deref(), Some(want.as_bytes()), "{byte} at {at}");
+            }
+        }
     }
     Ok(())
 }
