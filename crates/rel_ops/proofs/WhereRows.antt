@@ -1,5 +1,5 @@
 -- The loop of WHERE over the rows, and the rules of the rows that it keeps.
-use Rattle.std.proofs.Common.{◌≡◌, ℕ, ◌||◌, Ok, List, ◌∷◌, refl}
+use Rattle.std.proofs.Common.{◌≡◌, ℕ, ◌+◌, ◌<◌, ◌||◌, false, length, drop, get_or, Ok, List, ◌∷◌, refl, append-nil}
 use Rattle.std.specs.Prelude.{IsTrue}
 use Rattle.value_types.specs.declared.value.Value.{Value}
 use Rattle.cell_errors.specs.Answers.{Answer, Fails}
@@ -14,14 +14,14 @@ use Rattle.expr_meaning.specs.declared.bindings.ScopeColumn.{ScopeColumn}
 use Rattle.expr_meaning.specs.Meaning.{marked_over_row}
 use Rattle.relations.specs.declared.batch.Batch.{Batch}
 use Rattle.relations.specs.declared.condition.Test.{Test}
-use Rattle.relations.specs.Rels.{RelData, rel_of, bare_columns, KeepsRules, IsRel}
+use Rattle.relations.specs.Rels.{RelData, rel_of, whole, bare_columns, KeepsRules, IsRel}
 use Rattle.relations.specs.Bound.{bindings}
 use Rattle.relations.specs.Batches.{both, gathered}
 use Rattle.relations.specs.Conditions.{test_of, kept}
-use Rattle.relations.proofs.Loops.{resumed, begun, went_on, stops, ended}
+use Rattle.relations.proofs.Loops.{resumed, begun, went_on, went_on_at, stops, stops_at, ended, ended_at}
 use Rattle.relations.proofs.Rules.{or_parts, all_of, all_pass, all_pass_unmarked, ids_distinct}
 use Rattle.relations.proofs.KeptRows.{kept_has_only, kept_fits, kept_sure}
-use Rattle.rel_ops.specs.Filter.{where_row}
+use Rattle.rel_ops.specs.Filter.{where_row, filtered}
 
 module _ (columns : List ScopeColumn) (condition : Expr) (picks : List Pick) (cell : ℕ) where
   abbrev seen_at : Row → Seen Value
@@ -38,6 +38,11 @@ module _ (columns : List ScopeColumn) (condition : Expr) (picks : List Pick) (ce
       resumed b step rows ≡ resumed (both b (kept r t)) step rest
   kept_on b rows rest r t e k = went_on step b (kept r t) rows rest r e (where_is r t k)
 
+  -- the same over a slice
+  pub kept_on_at : (b : Batch) (rows : List Row) (i : ℕ) (r : Row) (t : Test) → i < length rows → r ≡ get_or rows i r → test_of (seen_at r) ≡ Ok t →
+      resumed b step (drop i rows) ≡ resumed (both b (kept r t)) step (drop (i + 1) rows)
+  kept_on_at b rows i r t h e k = went_on_at step b (kept r t) rows i r h e (where_is r t k)
+
   fails_too : (r : Row) (f : EvalFault) → Fails f (test_of (seen_at r)) → Fails f (step r)
   fails_too r (fault.Error e) h = rw h refl
   fails_too r fault.NoMemory h = tt
@@ -46,6 +51,20 @@ module _ (columns : List ScopeColumn) (condition : Expr) (picks : List Pick) (ce
   pub kept_stops : (whole : Answer Batch) (b : Batch) (rows rest : List Row) (r : Row) (f : EvalFault) → whole ≡ resumed b step rows → rows ≡ r ∷ rest →
       Fails f (test_of (seen_at r)) → Fails f whole
   kept_stops whole b rows rest r f w e h = stops step whole b rows rest r f w e (fails_too r f h)
+
+  pub kept_stops_at : (whole : Answer Batch) (b : Batch) (rows : List Row) (i : ℕ) (r : Row) (f : EvalFault) → whole ≡ resumed b step (drop i rows) →
+      i < length rows → r ≡ get_or rows i r → Fails f (test_of (seen_at r)) → Fails f whole
+  kept_stops_at whole b rows i r f w l e h = stops_at step whole b rows i r f w l e (fails_too r f h)
+
+-- a row for which the condition isn't TRUE adds its mark
+pub left_out_adds : (b : Batch) (r : Row) (t : Test) → t.holds ≡ false → both b (kept r t) ≡ record { rows = b.rows; marked = b.marked || t.marked }
+left_out_adds b r t e = rw (e, append-nil) refl
+
+-- what WHERE gives, from the rows that it keeps
+pub filtered_is : (rel : RelData) (condition : Expr) (picks : List Pick) (cell : ℕ) (b : Batch) →
+    gathered (where_row rel.columns condition picks cell) rel.rows ≡ Ok b →
+    filtered rel condition picks cell ≡ whole (rel_of rel.columns b.rows (rel.is_open || b.marked) rel.is_loose)
+filtered_is rel condition picks cell b e = rw e refl
 
 -- the rows that are kept follow the rules
 pub where_rules : (rel : RelData) (condition : Expr) (picks : List Pick) (cell : ℕ) (b : Batch) → IsRel rel →
@@ -65,4 +84,7 @@ where_rules rel condition picks cell b is e =
     }
 
 -- what the proof of the loop uses
-pub ruleset keeping = (begun, kept_on, ended)
+pub ruleset keeping = (begun, kept_on, kept_on_at, ended, ended_at)
+
+-- what the proof of one row uses
+pub ruleset left_out = (left_out_adds)

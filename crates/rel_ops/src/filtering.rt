@@ -1,14 +1,18 @@
 //! WHERE.
+ghost use Rattle.std.specs.Prelude.{◌≡◌, IfOk, OnOk, map};
 ghost use Rattle.cell_errors.specs.Answers.{Gives};
-ghost use Rattle.relations.specs.Batches.{gathered};
+ghost use Rattle.relations.specs.Batches.{both, gathered};
+ghost use Rattle.relations.specs.Conditions.{kept};
+ghost use Rattle.relations.specs.Rels.{qualified, table_rel};
 ghost use Rattle.rel_ops.specs.Filter.{row_test, where_row, filtered};
 
 use cell_errors::EvalFault;
-use dataset_types::{Picks, Row, Rows};
+use dataset_types::{Column, Picks, Row, Rows, Table};
 use expr_lang::Expr;
-use expr_meaning::ScopeColumn;
+use expr_meaning::{Scope, ScopeColumn};
 use relations::{Batch, Rel, RelParts, Test, bind, test_row};
 use std::alloc::Global;
+use value_types::{Name, NoMemory};
 
 fn test_at(
     alloc: Global,
@@ -65,4 +69,90 @@ pub fn filter(
     } = rel.into_parts();
     let kept = kept_rows(alloc, columns.as_slice(), rows, condition, picks, cell)?;
     Rel::new(alloc, columns, kept.rows, is_open | kept.marked, is_loose)
+}
+
+fn qualified(
+    alloc: Global,
+    column: &Column,
+    qualifier: &Option<Name>,
+) -> Result<ScopeColumn, NoMemory>
+    ensures { IfOk result (λ c. c ≡ qualified qualifier.now column.now) }
+{
+    Ok(ScopeColumn {
+        qualifier: match qualifier {
+            None => None,
+            Some(name) => Some(name.copy()),
+        },
+        column: column.copy(alloc)?,
+    })
+}
+
+fn qualified_columns(
+    alloc: Global,
+    columns: &[Column],
+    qualifier: &Option<Name>,
+) -> Result<Scope, NoMemory>
+    ensures { IfOk result (λ c. c ≡ map (qualified qualifier.now) columns.now) }
+{
+    let mut all = Scope::new(alloc)?;
+    for column in columns {
+        let one = qualified(alloc, column, qualifier)?;
+        all.push(alloc, one)?;
+    }
+    Ok(all)
+}
+
+#[tactic(auto, using(crate::proofs::WhereRows::left_out))]
+fn keep_copy(alloc: Global, all: &mut Batch, row: &Row, test: Test) -> Result<(), NoMemory>
+    ensures { OnOk result (all.new ≡ both all.old (kept row.now test)) }
+{
+    // A copy costs more than the test, and most rows may be left out.
+    if test.holds {
+        let copy = row.copy(alloc)?;
+        all.keep(alloc, copy, test)?;
+    } else {
+        all.marked |= test.marked;
+    }
+    Ok(())
+}
+
+#[tactic(auto, using(crate::proofs::WhereRows::keeping))]
+fn kept_copies(
+    alloc: Global,
+    columns: &[ScopeColumn],
+    rows: &[Row],
+    condition: &Expr,
+    picks: &Picks,
+    cell: u32,
+) -> Result<Batch, EvalFault>
+    ensures { Gives result (gathered (where_row columns.now condition.now picks.now cell) rows.now) }
+{
+    let mut all = Batch::new(alloc)?;
+    for row in rows {
+        let test = test_at(alloc, columns, condition, picks, cell, row)?;
+        keep_copy(alloc, &mut all, row, test)?;
+    }
+    Ok(all)
+}
+
+/// WHERE over a dataset, its columns under a qualifier: what `filter` gives of its relation, where only the kept rows are copied.
+///
+/// - Marks and errors: those of `filter`.
+pub fn filter_table(
+    alloc: Global,
+    table: &Table,
+    qualifier: &Option<Name>,
+    condition: &Expr,
+    picks: &Picks,
+    cell: u32,
+) -> Result<Rel, EvalFault>
+    ensures { Gives result
+        (filtered (table_rel qualifier.now table.now) condition.now picks.now cell) }
+{
+    table.law_of_rules();
+    let columns = qualified_columns(alloc, table.columns().as_slice(), qualifier)?;
+    let rows = table.rows().as_slice();
+    let kept = kept_copies(alloc, columns.as_slice(), rows, condition, picks, cell)?;
+    let is_open = table.is_open() | kept.marked;
+    Rel::new(alloc, columns, kept.rows, is_open, table.is_loose())
 }

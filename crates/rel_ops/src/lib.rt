@@ -16,7 +16,7 @@ mod tests;
 mod tests_marks;
 mod uniting;
 
-pub use filtering::filter;
+pub use filtering::{filter, filter_table};
 pub use laws::{law_of_filter, law_of_limit, law_of_project, law_of_sort, law_of_union};
 pub use limiting::limit;
 pub use projecting::project;

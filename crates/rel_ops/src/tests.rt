@@ -3,7 +3,7 @@ ghost use Rattle.std.specs.Prelude.{IfOk};
 ghost use Rattle.dataset_types.specs.Tables.{Distinct, row_ids};
 ghost use Rattle.rel_ops.specs.Project.{item_names};
 
-use crate::{filter, limit, project, sort, types_agree, union_all};
+use crate::{filter, filter_table, limit, project, sort, types_agree, union_all};
 use cell_errors::{CellError, EvalFault};
 use dataset_types::{
     Column, Columns, Marked, MarkedValues, Picks, Row, Rows, Table, all_sure, law_of_numbers,
@@ -83,16 +83,21 @@ fn rows(alloc: Global) -> Result<Rows, NoMemory>
     Ok(rows)
 }
 
-fn prices(rt: &impl Abort, alloc: Global) -> Result<Rel, EvalFault> {
+fn price_table(rt: &impl Abort, alloc: Global) -> Result<Table, EvalFault> {
     let columns = columns(alloc)?;
     let rows = rows(alloc)?;
     assert!(rt; names_distinct(columns.as_slice()));
     assert!(rt; rows_fit(columns.as_slice(), rows.as_slice()));
     assert!(rt; all_sure(rows.as_slice()));
     match Table::new(alloc, columns, rows, false, false) {
-        Ok(table) => Ok(Rel::of_table(alloc, &table, &None)?),
+        Ok(table) => Ok(table),
         Err(_) => Err(EvalFault::NoMemory),
     }
+}
+
+fn prices(rt: &impl Abort, alloc: Global) -> Result<Rel, EvalFault> {
+    let table = price_table(rt, alloc)?;
+    Ok(Rel::of_table(alloc, &table, &None)?)
 }
 
 fn push_row(alloc: Global, out: &mut Words, row: &Row) -> Result<(), NoMemory> {
@@ -162,6 +167,30 @@ fn a_row_that_is_left_out_leaves_a_caveat(rt: HostRuntime) {
         Err(fault) => Err(fault),
     };
     assert!(rt; gives(alloc, &kept, "#1 1 2.5000; open "));
+}
+
+fn table_above_two(rt: &impl Abort, alloc: Global) -> Result<Rel, EvalFault> {
+    let table = price_table(rt, alloc)?;
+    let price = Expr::Column {
+        qualifier: Some(named("t")?),
+        name: named("price")?,
+    };
+    let condition = binary(alloc, BinaryOp::Greater, price, 2)?;
+    let qualifier = Some(named("t")?);
+    filter_table(
+        alloc,
+        &table,
+        &qualifier,
+        &condition,
+        &Picks::new(alloc)?,
+        1,
+    )
+}
+
+#[test]
+fn a_row_that_is_left_out_of_a_dataset_leaves_a_caveat(rt: HostRuntime) {
+    let alloc = rt.alloc();
+    assert!(rt; gives(alloc, &table_above_two(&rt, alloc), "#1 1 2.5000; open "));
 }
 
 pub(crate) fn by_price(alloc: Global, rel: Rel, descending: bool) -> Result<Rel, EvalFault> {
