@@ -2,6 +2,7 @@ pub mod KeyNames
 pub mod KeyPlaces
 pub mod Columns
 pub mod Joinable
+pub mod Chosen
 pub mod Planned
 pub mod NamesOnce
 pub mod NamesRead

@@ -5,16 +5,19 @@ ghost use Rattle.cell_errors.specs.Answers.{Gives, collect};
 ghost use Rattle.dataset_types.specs.Tables.{Distinct};
 ghost use Rattle.rel_ops.specs.Project.{item_names};
 ghost use Rattle.rel_group.specs.Keys.{are_places};
-ghost use Rattle.sql_meaning.specs.Calls.{steps_of, tables_of, headings_at, IsPlanned, ArePlanned};
+ghost use Rattle.sql_plan.specs.Headings.{table_columns};
+ghost use Rattle.sql_meaning.specs.Calls.{steps_of, tables_of, headings_at};
+ghost use Rattle.sql_meaning.specs.Calls.{AreJoinable, IsPlanned, ArePlanned, chosen_rows};
 ghost use Rattle.sql_meaning.specs.Steps as spec;
 
 use crate::job::Job;
-use crate::tables::joined_tables;
+use crate::tables::{filtered_at, joined_tables};
 use cell_errors::EvalFault;
 use expr_lang::Expr;
 use rel_group::{distinct, group};
 use rel_ops::{filter, project};
 use relations::{Items, Rel};
+use sql_parse::Core;
 use sql_plan::CorePlan;
 use std::alloc::Global;
 use value_types::ListOf;
@@ -53,13 +56,29 @@ fn distinct_if(alloc: Global, job: &Job, is_distinct: bool, rel: Rel) -> Result<
     }
 }
 
+/// FROM with its joins, and WHERE; of a single table only the rows that WHERE keeps are copied.
+#[tactic(auto, using(crate::proofs::Chosen::single))]
+fn filtered_tables(alloc: Global, job: &Job, core: &Core) -> Result<Rel, EvalFault>
+    requires { AreJoinable (headings_at job.now)
+        (table_columns (headings_at job.now) core.now.table) core.now.joins }
+    ensures { Gives result (chosen_rows job.now core.now) }
+{
+    if core.joins.len() == 0 {
+        if let Some(condition) = &core.condition {
+            return filtered_at(alloc, job, &core.table, condition);
+        }
+    }
+    let all = joined_tables(alloc, job, core)?;
+    filter_if(alloc, job, all, &core.condition)
+}
+
 /// The steps of a core, one after another.
+#[tactic(auto, using(crate::proofs::Chosen::core_after))]
 fn core_rel(alloc: Global, job: &Job, core: &CorePlan) -> Result<Rel, EvalFault>
     requires { IsPlanned (headings_at job.now) core.now }
     ensures { Gives result (spec.core_rel (steps_of job.now) (tables_of job.now) core.now) }
 {
-    let all = joined_tables(alloc, job, &core.core)?;
-    let rows = filter_if(alloc, job, all, &core.core.condition)?;
+    let rows = filtered_tables(alloc, job, &core.core)?;
     let out = output_by(alloc, job, &rows, core)?;
     distinct_if(alloc, job, core.core.distinct, out)
 }

@@ -5,7 +5,7 @@ ghost use Rattle.cell_errors.specs.Answers.{Gives};
 ghost use Rattle.rel_join.specs.Rules.{AreApart};
 ghost use Rattle.sql_plan.specs.Folds.{folded};
 ghost use Rattle.sql_plan.specs.Headings.{table_columns};
-ghost use Rattle.sql_meaning.specs.Calls.{steps_of, tables_of, headings_at, AreJoinable};
+ghost use Rattle.sql_meaning.specs.Calls.{steps_of, tables_of, headings_at, AreJoinable, chosen_at};
 ghost use Rattle.sql_meaning.specs.Sources.{named_tables};
 ghost use Rattle.sql_meaning.specs.Steps as spec;
 
@@ -13,7 +13,9 @@ use crate::job::Job;
 use crate::source::Source;
 use cell_errors::{CellError, EvalFault};
 use dataset_types::Table;
+use expr_lang::Expr;
 use rel_join::{join, left_join};
+use rel_ops::filter_table;
 use relations::Rel;
 use sql_parse::{Core, JoinPart, TableRef};
 use std::alloc::Global;
@@ -38,6 +40,24 @@ fn rel_at(alloc: Global, job: &Job, table: &TableRef) -> Result<Rel, EvalFault>
         Some(found) => {
             let qualifier = Some(table.qualifier.copy());
             Ok(Rel::of_table(alloc, found, &qualifier)?)
+        }
+    }
+}
+
+/// A table of FROM under its qualifier, and WHERE. The rows are left where they are, but for those that it keeps.
+pub(crate) fn filtered_at(
+    alloc: Global,
+    job: &Job,
+    table: &TableRef,
+    condition: &Expr,
+) -> Result<Rel, EvalFault>
+    ensures { Gives result (chosen_at job.now table.now condition.now) }
+{
+    match table_of(job.sources, &table.dataset) {
+        None => Err(EvalFault::Error(CellError::NoDataset)),
+        Some(found) => {
+            let qualifier = Some(table.qualifier.copy());
+            filter_table(alloc, found, &qualifier, condition, job.picks, job.cell)
         }
     }
 }
