@@ -23,6 +23,8 @@ mod tests;
 #[cfg(test)]
 mod tests_having;
 #[cfg(test)]
+mod tests_many;
+#[cfg(test)]
 mod tests_marks;
 mod uncertain;
 
