@@ -1,4 +1,4 @@
-//! HAVING: its marks, and its errors beside those of the items.
+//! HAVING: marked conditions, NULL, and the order of its errors.
 use crate::tests::{binary, column, divided, gives, grouped, int};
 use crate::tests_marks::{Asked, Lines, closed, guessed_b, item, rel_of, sure, without_b};
 use expr_lang::{BinaryOp, Expr};
