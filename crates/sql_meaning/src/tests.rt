@@ -162,11 +162,15 @@ fn error_name(error: CellError) -> &'static str {
 fn line_of(alloc: Global, env: &Env, text: &str, picks: &Picks) -> Result<Words, NoMemory> {
     let mut out = Words::new(alloc)?;
     if text.len() >= 65_536 {
+        out.push_text(alloc, "no query")?;
         return Ok(out);
     }
     let select = match parse_select(alloc, text) {
         Ok(select) => select,
-        Err(_) => return Ok(out),
+        Err(_) => {
+            out.push_text(alloc, "no query")?;
+            return Ok(out);
+        }
     };
     let mut reads = EnvReads::new(alloc, env)?;
     match run_select(alloc, &select, 1, picks, &mut reads) {
