@@ -16,6 +16,10 @@ mod result;
 mod tests;
 #[cfg(test)]
 mod tests_formula;
+#[cfg(test)]
+mod tests_limits;
+#[cfg(test)]
+mod tests_order;
 
 pub use commands::{delete_column, insert_column, keep_columns, move_column, rename_column};
 pub use computing::formula;

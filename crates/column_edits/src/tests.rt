@@ -209,6 +209,8 @@ fn a_column_is_put_in_before_a_place(rt: HostRuntime) {
         ("z", 5, "NoColumn"),
         ("note", 1, "NameTaken"),
         ("note", 0, "NoColumn"),
+        ("note", 5, "NoColumn"),
+        ("note", 4, "NameTaken"),
     ] {
         assert!(rt;
             gives(alloc, &inserted(&rt, alloc, name, at), want),
@@ -378,6 +380,7 @@ fn columns_are_moved_and_chosen(rt: HostRuntime) {
         ("n", 0, "NoColumn"),
         ("n", 4, "NoColumn"),
         ("z", 1, "NoColumn"),
+        ("z", 0, "NoColumn"),
     ] {
         assert!(rt;
             gives(alloc, &moved(&rt, alloc, name, at), want),
@@ -394,4 +397,5 @@ fn columns_are_moved_and_chosen(rt: HostRuntime) {
         )
     );
     assert!(rt; gives(alloc, &kept(&rt, alloc, "note", "z"), "NoColumn"));
+    assert!(rt; gives(alloc, &kept(&rt, alloc, "z", "note"), "NoColumn"));
 }

@@ -15,7 +15,7 @@ use std::process::Abort;
 use std::test::*;
 use value_types::{ArcOf, ColumnType, Name, NoMemory, RowId, Value, Words};
 
-fn column(qualifier: Option<Name>, name: &str) -> Result<Expr, NoMemory> {
+pub(crate) fn column(qualifier: Option<Name>, name: &str) -> Result<Expr, NoMemory> {
     Ok(Expr::Column {
         qualifier,
         name: named(name)?,
@@ -94,6 +94,7 @@ fn a_column_is_computed_row_by_row(rt: HostRuntime) {
         ("price", "n", BinaryOp::Add, 0, "Overflow"),
         ("n", "n", BinaryOp::Divide, 0, "ZeroDivisor"),
         ("n", "price", BinaryOp::Add, 1, "TypeFault"),
+        ("note", "n", BinaryOp::Divide, 0, "TypeFault"),
         ("n", "note", BinaryOp::Add, 1, "TypeFault"),
         ("n", "z", BinaryOp::Add, 1, "NoColumn"),
         ("z", "note", BinaryOp::Add, 1, "NoColumn"),
@@ -106,7 +107,7 @@ fn a_column_is_computed_row_by_row(rt: HostRuntime) {
     assert!(rt; gives(alloc, &of_qualified(&rt, alloc), "NoColumn"));
 }
 
-fn text_of(alloc: Global, bytes: u32) -> Result<Marked, NoMemory> {
+pub(crate) fn text_of(alloc: Global, bytes: u32) -> Result<Marked, NoMemory> {
     let mut text = Words::new(alloc)?;
     for _ in 0..bytes {
         text.push_char(alloc, 'x')?;
@@ -117,7 +118,7 @@ fn text_of(alloc: Global, bytes: u32) -> Result<Marked, NoMemory> {
     })
 }
 
-fn empty(alloc: Global) -> Result<Marked, NoMemory> {
+pub(crate) fn empty(alloc: Global) -> Result<Marked, NoMemory> {
     text_of(alloc, 0)
 }
 
