@@ -11,9 +11,9 @@ use std::test::Fail;
 use value_types::{Bytes, NoMemory};
 
 const EDIT: &str =
-    "{\"edit\":\"append\",\"branch\":\"main\",\"cell\":{\"make\":\"t\",\"columns\":[],\"rows\":[]}}\n";
+    "{\"edit\":\"append\",\"branch\":\"main\",\"cell\":{\"make\":\"t\",\"columns\":[[\"a\",\"int\"]],\"rows\":[]}}\n";
 
-const BLOCK: &str = "version 1 main\ncell 1 #1 ok\ndataset t\n  columns\nend 1\n";
+const BLOCK: &str = "version 1 main\ncell 1 #1 ok\ndataset t\n  columns a int\nend 1\n";
 
 fn pieces_of(alloc: Global, pieces: &[&str]) -> Result<Pieces, NoMemory> {
     let mut all = Pieces::new(alloc)?;
