@@ -19,7 +19,7 @@ import sys
 import tempfile
 import time
 
-RUNS = 5
+RUNS = 15
 
 # A dataset has room for 65,536 values: 20,000 rows of three columns, but 13,000 with the two columns more that a join
 # has before its items are taken, and 16,000 with one column more.
@@ -70,14 +70,11 @@ def report(program, folder, stream):
     return out.stdout
 
 
-def best(program, folder, stream):
-    """The least time in which the program reads a stream and writes its report."""
-    times = []
-    for _ in range(RUNS):
-        began = time.perf_counter()
-        report(program, folder, stream)
-        times.append(time.perf_counter() - began)
-    return min(times)
+def seconds(program, folder, stream):
+    """The time in which the program reads a stream and writes its report."""
+    began = time.perf_counter()
+    report(program, folder, stream)
+    return time.perf_counter() - began
 
 
 def count_in_last_block(written, name):
@@ -120,15 +117,18 @@ class Tables:
         self.beside.executemany("INSERT INTO t VALUES (?, ?, ?)", t)
         self.beside.executemany("INSERT INTO u VALUES (?, ?)", u)
         self.start = base(["t", "u"])
-        self.empty = best(program, self.folder, self.start)
 
     def with_cell(self, cell):
         """The stream with a cell before the tables are dropped; what it makes of them is not dropped."""
         return self.start + line("insert", cell, at=3)
 
     def cell(self, cell):
-        """The time that a cell adds."""
-        return best(self.program, self.folder, self.with_cell(cell)) - self.empty
+        """The time that a cell adds: runs with and without it take turns, so that what else the machine does is in both."""
+        with_it, without = [], []
+        for _ in range(RUNS):
+            with_it.append(seconds(self.program, self.folder, self.with_cell(cell)))
+            without.append(seconds(self.program, self.folder, self.start))
+        return min(with_it) - min(without)
 
     def agree(self, name, cell, text):
         """Ends everything where a query and that of sqlite3 don't give as many rows."""
