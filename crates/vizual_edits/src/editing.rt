@@ -60,14 +60,7 @@ impl<'a> Edit for ByFormula<'a> {
     ghost gives = { λ e t. formula e.column.now e.expr.now e.picks.now e.cell t };
 
     fn run(&self, alloc: Global, table: &ArcOf<Table>) -> Result<ArcOf<Table>, EvalFault> {
-        formula(
-            alloc,
-            table,
-            self.column,
-            self.expr,
-            self.picks,
-            self.cell,
-        )
+        formula(alloc, table, self.column, self.expr, self.picks, self.cell)
     }
 }
 
