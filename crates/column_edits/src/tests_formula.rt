@@ -1,4 +1,6 @@
 //! Formulas over the rows of the other tests, and at the limit of text.
+//!
+//! What other test modules call has no contract: tests look at what they get.
 ghost use Rattle.std.specs.Prelude.{IfOk};
 ghost use Rattle.dataset_types.specs.Tables.{Distinct, row_ids};
 

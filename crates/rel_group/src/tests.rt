@@ -1,4 +1,6 @@
 //! Groups of rows with two numbers, a and b. Each result is shown as one line: rows, then whether it is open.
+//!
+//! What other test modules call has no contract: tests look at what they get.
 ghost use Rattle.std.specs.Prelude.{IfOk};
 ghost use Rattle.dataset_types.specs.Tables.{Distinct, row_ids};
 ghost use Rattle.rel_ops.specs.Project.{item_names};

@@ -1,4 +1,6 @@
 //! Marks of groups and of DISTINCT: marked keys and values, unsure rows, and no rows.
+//!
+//! What other test modules call has no contract: tests look at what they get.
 ghost use Rattle.std.specs.Prelude.{IfOk};
 ghost use Rattle.dataset_types.specs.Tables.{Distinct, row_ids};
 

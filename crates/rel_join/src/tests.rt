@@ -1,4 +1,6 @@
 //! Joins of two small datasets. Each result is shown as one line: rows, then flags.
+//!
+//! What other test modules call has no contract: tests look at what they get.
 ghost use Rattle.std.specs.Prelude.{IfOk};
 ghost use Rattle.dataset_types.specs.Tables.{Distinct, row_ids};
 

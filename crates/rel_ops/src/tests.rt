@@ -1,4 +1,6 @@
 //! Steps over two prices, one of which could not be read. Each result is shown as one line: rows, then flags.
+//!
+//! What other test modules call has no contract: tests look at what they get.
 ghost use Rattle.std.specs.Prelude.{IfOk};
 ghost use Rattle.dataset_types.specs.Tables.{Distinct, row_ids};
 ghost use Rattle.rel_ops.specs.Project.{item_names};

@@ -1,7 +1,7 @@
 //! The spreadsheet commands: what each names, as a tree.
 //!
 //! Start at `Command`. What a command makes of a dataset is not here, and neither is its form in an edit
-//! line, which is in `edit_wire`.
+//! line, which is in `sheet_json`.
 #![tactic(auto)]
 
 mod command;

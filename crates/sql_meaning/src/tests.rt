@@ -1,5 +1,7 @@
 //! SELECTs over small datasets. `p` has two prices, of which the second could not be read; `q` is open and has the first alone;
 //! `l` has the ids 1 and 3, and `d` is the same in doubt. A result is shown as one line: rows, then flags.
+//!
+//! What other test modules call has no contract: tests look at what they get.
 ghost use Rattle.std.specs.Prelude.{IfOk};
 ghost use Rattle.dataset_types.specs.Tables.{Distinct, row_ids};
 
