@@ -4,6 +4,7 @@
 
 The last line is `N passed, M failed`, and the status is 1 where a check failed.
 """
+import json
 import os
 import shutil
 import subprocess
@@ -13,6 +14,7 @@ import tempfile
 SECONDS = 120
 STREAM_LIMIT = 16777216
 FILE_LIMIT = 1048576
+CELL_LIMIT = 48
 LINE = (b'{"edit":"append","branch":"main","cell":{"make":"t",'
         b'"columns":[["a","int"],["b","text"]],"rows":[[1,"x"],[2,null]]}}\n')
 WIDE = (b'{"edit":"append","branch":"main","cell":{"make":"t",'
@@ -99,12 +101,14 @@ def nothing_is_read_where_the_words_are_wrong(command):
     return ended(run.returncode, run.stderr, 1, "BadWords")
 
 
-def at_a_load(command, words, prepared):
-    """The program in a folder of its own, which is prepared first, over one append of a load of `f`."""
-    line = b'{"edit":"append","branch":"main","cell":{"load":"t","file":"f","types":["int"]}}\n'
+LOAD = b'{"edit":"append","branch":"main","cell":{"load":"t","file":"f","types":["int"]}}\n'
+
+
+def at_a_load(command, words, prepared, stream=LOAD):
+    """The program in a folder of its own, which is prepared first, over one append of a load of `f`, or another stream."""
     with tempfile.TemporaryDirectory() as place:
         prepared(os.path.join(place, "f"))
-        return subprocess.run(command + words, input=line, cwd=place, stdout=subprocess.PIPE,
+        return subprocess.run(command + words, input=stream, cwd=place, stdout=subprocess.PIPE,
                               stderr=subprocess.PIPE, timeout=SECONDS)
 
 
@@ -135,6 +139,47 @@ def a_file_at_the_limit_is_loaded(command):
     return wrote(run, b"version 1 main\ncell 1 #1 ok\ndataset t\n  columns n int\n  #1: ~null\nend 1\n")
 
 
+def edit(word, branch, cell, **place):
+    return json.dumps(dict(edit=word, branch=branch, cell=cell, **place)).encode() + b"\n"
+
+
+def loads_before_and_after_a_full_version():
+    """Loads of `f` that are refused whatever the file is, at lines 5 and 58 one of which only the file can be to blame."""
+    make, load = {"make": "t", "columns": [["a", "int"]], "rows": []}, {"load": "t", "file": "f"}
+    return b"".join([
+        edit("append", "b", load), edit("insert", "main", load, at=0), edit("insert", "main", load, at=2),
+        edit("update", "main", load, at=1), edit("append", "main", load),
+        *[edit("append", "main", make)] * CELL_LIMIT,
+        edit("append", "main", load), edit("insert", "main", load, at=CELL_LIMIT),
+        edit("insert", "main", load, at=CELL_LIMIT + 2), edit("update", "main", load, at=CELL_LIMIT + 1),
+        edit("update", "main", load, at=CELL_LIMIT)])
+
+
+def before_the_file(command, prepared, fault):
+    """What is wrong with the report of these loads, where the file has this fault."""
+    lines = [f"line {line} refused {name}" for line, name in enumerate(
+        ["E3 NoBranch", "E5 NoCell", "E5 NoCell", "E5 NoCell", fault], 1)]
+    for version in range(1, CELL_LIMIT + 1):
+        lines += [f"version {version} main", *[f"cell {cell} #{cell} ok" for cell in range(1, version + 1)],
+                  "dataset t", "  columns a int", f"end {version}"]
+    lines += [f"line {line} refused {name}" for line, name in enumerate(
+        ["E7 TooMany", "E7 TooMany", "E5 NoCell", "E5 NoCell", fault], 54)]
+    run = at_a_load(command, ["serial"], prepared, loads_before_and_after_a_full_version())
+    return wrote(run, "".join(line + "\n" for line in lines).encode())
+
+
+def what_refuses_an_edit_comes_before_a_missing_file(command):
+    return before_the_file(command, lambda path: None, "E8 NoFile")
+
+
+def what_refuses_an_edit_comes_before_a_file_that_is_too_long(command):
+    return before_the_file(command, bytes_of(FILE_LIMIT + 1), "E9 FileTooLong")
+
+
+def what_refuses_an_edit_comes_before_a_file_that_cannot_be_read(command):
+    return before_the_file(command, os.mkdir, "E10 FileFault")
+
+
 def a_picks_file_that_is_a_folder_is_a_fault(command):
     return wrote(at_a_load(command, ["serial", "--picks", "f"], os.mkdir), b"", 7, "PicksFault")
 
@@ -148,6 +193,9 @@ CHECKS = (
     a_folder_that_is_loaded_is_a_file_fault,
     a_file_of_one_byte_too_many_is_refused,
     a_file_at_the_limit_is_loaded,
+    what_refuses_an_edit_comes_before_a_missing_file,
+    what_refuses_an_edit_comes_before_a_file_that_is_too_long,
+    what_refuses_an_edit_comes_before_a_file_that_cannot_be_read,
     a_picks_file_that_is_a_folder_is_a_fault,
     a_picks_file_of_one_byte_too_many_is_bad,
     a_report_to_a_full_disk_is_a_write_fault,
