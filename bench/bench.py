@@ -2,38 +2,39 @@
 
     python3 bench/bench.py PROGRAM [WORDS]
 
-Each number is the best of several runs. A time is that of the whole process, from its start to its
-end. This process stays small, since the peak memory that the system tells of a child is at least
-that of the process which started it.
+A time is processor time, user's and system's, of the whole process; of Python's loops that of the loop
+alone. Each number is the best of several runs, and what is compared takes turns, so that what else the
+machine does is in both. This process stays small, since the peak memory that the system tells of a
+child is at least that of the process which started it.
 """
 import os
 import random
 import subprocess
 import sys
 import tempfile
-import time
 from collections import namedtuple
 
 MB = 1_000_000
 STREAM_LIMIT = 16_777_216
 LINE_LIMIT = 65_536
 CELLS = 40
+EDITS = 200
 
 Run = namedtuple("Run", "seconds peak")
 
 # What Python does with the lines: its own time goes to standard output.
 JSON_LOADS = """
 import json, sys, time
-start = time.perf_counter()
+start = time.process_time()
 for line in sys.stdin.buffer:
     json.loads(line)
-print(time.perf_counter() - start)
+print(time.process_time() - start)
 """
 
 # What Python does with a file: its own time goes to standard output.
 CSV_LOADS = """
 import csv, sys, time
-start = time.perf_counter()
+start = time.process_time()
 with open(sys.argv[1], newline="") as file:
     rows = csv.reader(file)
     next(rows)
@@ -41,22 +42,20 @@ with open(sys.argv[1], newline="") as file:
         for at in range(0, 8, 2):
             row[at] = int(row[at])
             row[at + 1] = float(row[at + 1])
-print(time.perf_counter() - start)
+print(time.process_time() - start)
 """
 
 
 # ---- runs
 
 def run_once(command, stream, output):
-    start = time.perf_counter()
     with open(stream, "rb") as source:
         process = subprocess.Popen(command, stdin=source, stdout=output)
         _, status, used = os.wait4(process.pid, 0)
-    seconds = time.perf_counter() - start
     process.returncode = os.waitstatus_to_exitcode(status)
     if process.returncode != 0:
         sys.exit(f"{command} ended with status {process.returncode}")
-    return Run(seconds, used.ru_maxrss * 1024 / MB)
+    return Run(used.ru_utime + used.ru_stime, used.ru_maxrss * 1024 / MB)
 
 
 def to_file(command, stream, path):
@@ -73,10 +72,10 @@ def to_pipe(command, stream):
         cat.wait()
 
 
-def best(count, run):
-    """The least time and the least peak of so many runs."""
-    runs = [run() for _ in range(count)]
-    return Run(min(it.seconds for it in runs), min(it.peak for it in runs))
+def in_turns(count, *sides):
+    """The least time and the least peak of each of these sides, which run in turns so many times."""
+    rounds = [[side() for side in sides] for _ in range(count)]
+    return [Run(min(it.seconds for it in runs), min(it.peak for it in runs)) for runs in zip(*rounds)]
 
 
 def json_loads(stream):
@@ -179,6 +178,14 @@ def versions(place, count):
         yield '{"edit":"update","branch":"main","at":%d,"cell":%s}' % (place, make_cell("t%d" % place, rows))
 
 
+def short_versions(cells, count):
+    """Appends of so many cells with one row and one name, and then so many edits of the last one."""
+    for _ in range(cells):
+        yield appended("t", ['[1,"row"]'])
+    for _ in range(count):
+        yield '{"edit":"update","branch":"main","at":%d,"cell":%s}' % (cells, make_cell("t", ['[1,"row"]']))
+
+
 def write_file(path, records):
     """Writes a CSV file of eight columns, whole numbers beside fixed ones, and tells how long it is."""
     numbers = random.Random(8)
@@ -197,8 +204,7 @@ def write_file(path, records):
 def measure_lines(command, folder):
     stream, output = os.path.join(folder, "stream"), os.path.join(folder, "output")
     count, size = write_lines(stream, no_edits())
-    ours = best(5, lambda: to_file(command, stream, output))
-    python = best(5, lambda: json_loads(stream))
+    ours, python = in_turns(5, lambda: to_file(command, stream, output), lambda: json_loads(stream))
     with open(output, "rb") as file:
         refused = sum(line.endswith(b" refused E2 BadEdit\n") for line in file)
     if refused != count:
@@ -214,8 +220,7 @@ def measure_shapes(command, folder):
     print("lines of other shapes that are no edit, about 4 MB of each")
     for shape in ("short objects", "whole numbers", "numbers with points", "a plain text", "a text of escapes"):
         _, size = write_lines(stream, lines_of(shape))
-        ours = best(9, lambda: to_file(command, stream, output))
-        python = best(5, lambda: json_loads(stream))
+        ours, python = in_turns(9, lambda: to_file(command, stream, output), lambda: json_loads(stream))
         print(f"  {shape:20} program {1000 * ours.seconds:7.1f} ms  {size / MB / ours.seconds:6.0f} MB/s; "
               f"json.loads {1000 * python.seconds:7.1f} ms; ratio {ours.seconds / python.seconds:.2f}")
 
@@ -223,9 +228,8 @@ def measure_shapes(command, folder):
 def measure_report(command, folder):
     stream, output = os.path.join(folder, "stream"), os.path.join(folder, "output")
     count, size = write_lines(stream, long_report())
-    file = best(3, lambda: to_file(command, stream, output))
+    file, pipe = in_turns(3, lambda: to_file(command, stream, output), lambda: to_pipe(command, stream))
     written = os.path.getsize(output)
-    pipe = best(3, lambda: to_pipe(command, stream))
     print(f"a long report: {count} versions, {size / MB:.1f} MB in, {written / MB:.1f} MB out")
     for name, it in (("to a file", file), ("to a pipe", pipe)):
         print(f"  {name}   {it.seconds:8.3f} s  {written / MB / it.seconds:8.0f} MB/s  peak {it.peak:6.1f} MB")
@@ -233,19 +237,15 @@ def measure_report(command, folder):
 
 def measure_versions(command, folder):
     """Edits of the last cell beside edits of the first one, of which a notebook has room for 18."""
-    stream, output = os.path.join(folder, "stream"), os.path.join(folder, "output")
-
-    def time_of(place, count):
-        write_lines(stream, versions(place, count))
-        run = best(15, lambda: to_file(command, stream, output))
-        return run, os.path.getsize(output)
-
-    base, _ = time_of(1, 0)
-    first, written = time_of(1, 18)
-    last, as_much = time_of(CELLS, 18)
+    names = {"base": (1, 0), "first": (1, 18), "last": (CELLS, 18), "many": (CELLS, 160)}
+    paths = {name: os.path.join(folder, name) for name in names}
+    for name, (place, count) in names.items():
+        write_lines(paths[name], versions(place, count))
+    base, first, last, many = in_turns(
+        15, *[lambda it=path: to_file(command, it, it + ".out") for path in paths.values()])
+    written, as_much, in_all = (os.path.getsize(paths[name] + ".out") for name in ("first", "last", "many"))
     if abs(written - as_much) > written // 1000:
         sys.exit("the two reports are not of about one length")
-    many, in_all = time_of(CELLS, 160)
     by_first, by_last = first.seconds - base.seconds, last.seconds - base.seconds
     print(f"versions of {CELLS} cells, after {CELLS} appends that take {1000 * base.seconds:.1f} ms")
     print(f"  18 edits of the first cell  {1000 * by_first:8.2f} ms more, {written / MB:.1f} MB out in all")
@@ -253,6 +253,25 @@ def measure_versions(command, folder):
     print(f"  ratio, first to last: {by_first / by_last:.2f}")
     print(f"  200 versions, each edit of the last cell: {1000 * many.seconds:.1f} ms, "
           f"{in_all / MB:.1f} MB out, peak {many.peak:.1f} MB")
+
+
+def measure_edits(command, folder):
+    """The time of one accepted edit of the last cell, by the number of cells; all write one small dataset."""
+    print(f"one edit of the last cell, by the cells of its version, of {EDITS} edits")
+    before = None
+    for cells in (12, 24, 48):
+        streams = [os.path.join(folder, name) for name in ("without", "with")]
+        for stream, count in zip(streams, (0, EDITS)):
+            write_lines(stream, short_versions(cells, count))
+        without, all_edits = in_turns(
+            15, *[lambda it=stream: to_file(command, it, it + ".out") for stream in streams])
+        with open(streams[1] + ".out", "rb") as file:
+            if file.read().count(b"version ") != cells + EDITS:
+                sys.exit("not every edit was accepted")
+        each = (all_edits.seconds - without.seconds) / EDITS
+        growth = "" if before is None else f"; growth {each / before:.2f}"
+        print(f"  {cells} cells  {1e6 * each:8.1f} us{growth}")
+        before = each
 
 
 def measure_loads(command, folder):
@@ -263,8 +282,7 @@ def measure_loads(command, folder):
     for records in (1024, 2048, 4096, 8192):
         size = write_file(path, records)
         write_lines(stream, ['{"edit":"append","branch":"main","cell":{"load":"f","file":"f.csv"}}'])
-        ours = best(9, lambda: to_file(command, stream, output))
-        python = best(9, lambda: csv_loads(path))
+        ours, python = in_turns(9, lambda: to_file(command, stream, output), lambda: csv_loads(path))
         print(f"  {size / MB:5.2f} MB, {8 * records:6} values: program {1000 * ours.seconds:7.1f} ms, "
               f"peak {ours.peak:5.1f} MB; csv {1000 * python.seconds:7.1f} ms; ratio {ours.seconds / python.seconds:.2f}")
     os.chdir("/")
@@ -276,7 +294,7 @@ def main(words):
         return 2
     command = [os.path.abspath(word) if os.path.exists(word) else word for word in words] + ["serial"]
     room = "/dev/shm" if os.path.isdir("/dev/shm") else None
-    for measure in (measure_lines, measure_shapes, measure_report, measure_versions, measure_loads):
+    for measure in (measure_lines, measure_shapes, measure_report, measure_versions, measure_edits, measure_loads):
         with tempfile.TemporaryDirectory(dir=room) as folder:
             measure(command, folder)
     return 0

@@ -1,8 +1,9 @@
 """A thin program over the crates of expressions, for `bench/expressions.py` and `bench/sqlite_expressions.py`.
 
-No cell has an expression yet, so the program itself can't be asked. Its source is `bench/expression_bench/main.txt`,
-which says what it does. It is no crate of the repository: for a run it is set beside a copy of the crates, in a folder
-that goes away. `values` runs it unproved; `build` proves it and gives the built program.
+The program itself has expressions in cells alone, among much else; this one does nothing beside them. Its source is
+`bench/expression_bench/main.txt`, which says what it does. It is no crate of the repository: for a run it is set beside
+a copy of the crates, in a folder that goes away. `values` runs it unproved; `build` proves it and gives the built
+program.
 """
 import os
 import shutil

@@ -6,12 +6,14 @@
 The program runs twice for each: with a notebook that loads the tables and drops them again, and with the cell that is
 measured put between the two. The difference of the best times is the cell and the printing of what it leaves. sqlite3
 has the same tables in memory, its prices as whole hundredths, and the time is that of the query and the fetch of its
-rows. Before a query is timed, both must give as many rows. Each is measured on a quarter of its rows too, and the
+rows. Times are processor time, user's and system's, and the three take turns. Before a query is timed, both must give
+as many rows. Each is measured on a quarter of its rows too, and the
 growth told. A command is set beside `rename_column`, which copies each row of its dataset once and does no more.
 """
 import json
 import os
 import random
+import resource
 import shutil
 import sqlite3
 import subprocess
@@ -70,11 +72,17 @@ def report(program, folder, stream):
     return out.stdout
 
 
+def of_children():
+    """The processor time of all programs that were started and have ended."""
+    used = resource.getrusage(resource.RUSAGE_CHILDREN)
+    return used.ru_utime + used.ru_stime
+
+
 def seconds(program, folder, stream):
     """The time in which the program reads a stream and writes its report."""
-    began = time.perf_counter()
+    before = of_children()
     report(program, folder, stream)
-    return time.perf_counter() - began
+    return of_children() - before
 
 
 def count_in_last_block(written, name):
@@ -122,13 +130,20 @@ class Tables:
         """The stream with a cell before the tables are dropped; what it makes of them is not dropped."""
         return self.start + line("insert", cell, at=3)
 
-    def cell(self, cell):
-        """The time that a cell adds: runs with and without it take turns, so that what else the machine does is in both."""
-        with_it, without = [], []
+    def query(self, text):
+        """The time of sqlite3 for a query."""
+        before = time.process_time()
+        self.beside.execute(text).fetchall()
+        return time.process_time() - before
+
+    def times(self, cell, text):
+        """The time that a cell adds, and that of sqlite3 for a text: runs with it, without it and of the text take turns."""
+        with_it, without, beside = [], [], []
         for _ in range(RUNS):
             with_it.append(seconds(self.program, self.folder, self.with_cell(cell)))
             without.append(seconds(self.program, self.folder, self.start))
-        return min(with_it) - min(without)
+            beside.append(0 if text is None else self.query(text))
+        return min(with_it) - min(without), min(beside)
 
     def agree(self, name, cell, text):
         """Ends everything where a query and that of sqlite3 don't give as many rows."""
@@ -137,15 +152,6 @@ class Tables:
         if ours != theirs:
             sys.exit("%s: the program gives %d rows and sqlite3 %d, so their times can't be compared\n  %s\n  %s"
                      % (name, ours, theirs, cell["sql"], text))
-
-    def query(self, text):
-        """The time of sqlite3 for a query."""
-        times = []
-        for _ in range(RUNS):
-            began = time.perf_counter()
-            self.beside.execute(text).fetchall()
-            times.append(time.perf_counter() - began)
-        return min(times)
 
     def close(self):
         self.beside.close()
@@ -164,8 +170,9 @@ def measured(program):
                     there[count] = Tables(program, count)
                 if text is not None:
                     there[count].agree(name, cell, text)
-            yield (name, rows, there[rows // 4].cell(cell), there[rows].cell(cell),
-                   None if text is None else there[rows].query(text))
+            few, _ = there[rows // 4].times(cell, text)
+            many, beside = there[rows].times(cell, text)
+            yield name, rows, few, many, None if text is None else beside
     finally:
         for it in there.values():
             it.close()
