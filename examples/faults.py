@@ -144,7 +144,7 @@ def edit(word, branch, cell, **place):
 
 
 def loads_before_and_after_a_full_version():
-    """Loads of `f` that are refused whatever the file is, at lines 5 and 58 one of which only the file can be to blame."""
+    """Loads of `f` that are refused whatever the file is, and at lines 5 and 58 two that are in order but for the file."""
     make, load = {"make": "t", "columns": [["a", "int"]], "rows": []}, {"load": "t", "file": "f"}
     return b"".join([
         edit("append", "b", load), edit("insert", "main", load, at=0), edit("insert", "main", load, at=2),
