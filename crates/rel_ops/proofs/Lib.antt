@@ -2,6 +2,7 @@ pub mod Collecting
 pub mod Lists
 pub mod Stable
 pub mod Ranks
+pub mod Orders
 pub mod WhereRows
 pub mod ProjectRules
 pub mod SameLaws

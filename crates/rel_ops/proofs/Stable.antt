@@ -6,7 +6,7 @@ use Rattle.std.specs.List.Sorted.{ties, IsSortedBy, IsStableBy}
 use Rattle.std.proofs.lemmas.List.Sorted.{sorted_far}
 use Rattle.rel_ops.specs.Sorted.{insert_at, inserted, sorted}
 
-abbrev Each : {X : Type 0} → (X → Type 0) → List X → Type 0
+abbrev pub Each : {X : Type 0} → (X → Type 0) → List X → Type 0
 Each P [] = ⊤
 Each P (x ∷ xs) = P x × Each P xs
 
@@ -123,7 +123,7 @@ module _ {X : Type 0} (lt : X → X → Bool) (o : IsStrictWeakOrder lt) where
       on true l rest = ap (λ ws. cond (ties lt x z) (z ∷ ws) ws) rest ∙ moved (ties lt x z) (ties lt x y) refl refl l
       on false l rest = refl
 
-  ties_sorted : (x : X) (xs : List X) → filter (ties lt x) (sorted lt xs) ≡ filter (ties lt x) xs
+  pub ties_sorted : (x : X) (xs : List X) → filter (ties lt x) (sorted lt xs) ≡ filter (ties lt x) xs
   ties_sorted x [] = refl
   ties_sorted x (y ∷ ys) = keeps_ties x y (sorted lt ys) ∙ ap (λ ws. cond (ties lt x y) (y ∷ ws) ws) (ties_sorted x ys)
 

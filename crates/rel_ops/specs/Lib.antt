@@ -8,3 +8,4 @@ pub mod Union
 pub mod Sorted
 -- what holds of the steps
 pub mod Laws
+pub mod Orders

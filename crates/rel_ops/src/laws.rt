@@ -5,6 +5,7 @@
 ghost use Rattle.rel_ops.specs.Laws.{FilterErases, FilterShows, FilterKeepsShown};
 ghost use Rattle.rel_ops.specs.Laws.{ProjectErases, ProjectShows, ProjectKeepsShown};
 ghost use Rattle.rel_ops.specs.Laws.{SortErases, SortShows, SortKeepsShown};
+ghost use Rattle.rel_ops.specs.Orders.{SortOrders};
 ghost use Rattle.rel_ops.specs.Laws.{LimitErases, LimitShows, LimitKeepsShown};
 ghost use Rattle.rel_ops.specs.Laws.{UnionErases, UnionShows, UnionKeepsShown};
 
@@ -25,11 +26,12 @@ pub fn law_of_project(items: &Items)
     ensures same { ProjectKeepsShown items.now }
 {}
 
-/// The laws of ORDER BY.
+/// The laws of ORDER BY. `orders`: the rows are those there were, in order by the keys, and rows of equal keys keep their order.
 pub fn law_of_sort(keys: &SortKeys)
     ensures erases { SortErases keys.now }
     ensures shows { SortShows keys.now }
     ensures same { SortKeepsShown keys.now }
+    ensures orders { SortOrders keys.now }
 {}
 
 /// The laws of LIMIT.

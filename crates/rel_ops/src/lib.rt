@@ -20,5 +20,5 @@ pub use filtering::{filter, filter_table};
 pub use laws::{law_of_filter, law_of_limit, law_of_project, law_of_sort, law_of_union};
 pub use limiting::limit;
 pub use projecting::project;
-pub use sorting::sort;
+pub use sorting::{any_marked_key, is_sorted, sort};
 pub use uniting::{types_agree, union_all};

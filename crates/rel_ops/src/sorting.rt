@@ -1,9 +1,11 @@
 //! ORDER BY.
-ghost use Rattle.std.specs.Prelude.{◌≡◌, ◌-◌, IfOk, OnOk};
+ghost use Rattle.std.specs.Prelude.{◌≡◌, ◌↔◌, ◌-◌, IsTrue, IfOk, OnOk};
 ghost use Rattle.std.specs.List.{list_any};
+ghost use Rattle.std.specs.List.Sorted.{IsSortedBy};
 ghost use Rattle.cell_errors.specs.Answers.{Gives};
 ghost use Rattle.rel_ops.specs.Sort as spec;
-ghost use Rattle.rel_ops.specs.Sort.{value_at_key, marked_at_key, key_cmp, keys_cmp, in_order, ordered};
+ghost use Rattle.rel_ops.specs.Sort.{value_at_key, marked_at_key, key_cmp, keys_cmp, keys_lt};
+ghost use Rattle.rel_ops.specs.Sort.{in_order, ordered};
 
 use cell_errors::EvalFault;
 use dataset_types::{Row, Rows};
@@ -93,7 +95,8 @@ fn has_marked_key(keys: &[SortKey], row: &Row) -> bool
     false
 }
 
-fn any_marked_key(keys: &[SortKey], rows: &[Row]) -> bool
+/// Whether a sure row is placed by a marked value, which makes the order of a sort uncertain.
+pub fn any_marked_key(keys: &[SortKey], rows: &[Row]) -> bool
     ensures { result ≡ list_any (spec.has_marked_key keys.now) rows.now }
 {
     for row in rows {
@@ -102,6 +105,13 @@ fn any_marked_key(keys: &[SortKey], rows: &[Row]) -> bool
         }
     }
     false
+}
+
+/// Whether rows are in order by the keys, so that `sort` leaves them as they are: none comes before the one above it.
+pub fn is_sorted(keys: &[SortKey], rows: &[Row]) -> bool
+    ensures { IsTrue result ↔ IsSortedBy (keys_lt value_at_key keys.now) rows.now }
+{
+    rows.is_sorted_by(|above, below| !compare_rows(keys, below, above).is_lt())
 }
 
 /// ORDER BY: the rows in order by the keys, NULL first ascending and last descending; ties keep their order.
