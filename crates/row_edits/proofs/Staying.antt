@@ -1,20 +1,28 @@
--- A move that leaves the rows and the flags as they are.
-use Rattle.std.proofs.Common.{◌≡◌, ℕ, suc, Bool, true, false, not, ◌&&◌, ◌||◌, Ok, Err, List, [], ◌∷◌, ◌++◌, length, cond, refl, ap, ◌∙◌, arith}
-use Rattle.std.specs.Prelude.{if◌then◌else◌, ◌==◌, Option, Some, None}
+-- Commands that leave the rows and the flags as they are.
+use Rattle.std.proofs.Common.{◌≡◌, ℕ, suc, Bool, true, false, not, ◌&&◌, ◌||◌, Ok, Err, List, [], ◌∷◌, ◌++◌, length, cond, get_or, refl, ap, ◌∙◌, sym, arith}
+use Rattle.std.specs.Prelude.{if◌then◌else◌, ◌==◌, Option, Some, None, slice_set}
+use Rattle.std.specs.List.{list_all}
 use Rattle.std.proofs.lemmas.Bool.Decides.{Decides-eqb}
+use Rattle.std.proofs.lemmas.List.{set-get_or}
 use Rattle.value_types.specs.declared.row_id.RowId.{RowId}
+use Rattle.value_types.specs.declared.value.Value.{Value}
 use Rattle.cell_errors.specs.Answers.{and_then}
 use Rattle.cell_errors.specs.declared.fault.CellError.TheVariants as error
+use Rattle.dataset_types.specs.declared.row.Marked.{Marked}
 use Rattle.dataset_types.specs.declared.row.Row.{Row}
+use Rattle.dataset_types.specs.Same.{marked_decides}
 use Rattle.dataset_types.specs.Tables.{TableData, IsTable, table_of}
 use Rattle.edit_results.proofs.Whole.{whole_of}
 use Rattle.edit_results.specs.Results.{whole}
-use Rattle.row_edits.specs.ByText.{is_text, put_in, only, without, is_there, up_to, place_of, after}
+use Rattle.row_edits.specs.ByText.{is_text, put_in, only, without, is_there, up_to, place_of, after, changed_at}
 use Rattle.row_edits.specs.Rows.{is_itself, put, are_there, moved}
 use Rattle.row_edits.specs.Move.{follows_unsure, row_moved}
-use Rattle.row_edits.specs.Staying.{is_in_place, stays}
+use Rattle.row_edits.specs.Staying.{is_in_place, stays, has_value, stands}
 use Rattle.row_edits.specs.Insert.{is_unsure}
 use Rattle.row_edits.specs.Ids.{row_id}
+use Rattle.row_edits.specs.Set.{with_value, value_set}
+use Rattle.row_edits.specs.Columns.{find_column, value_for}
+use Rattle.row_edits.specs.declared.columns.Found.{Found}
 
 empty : {X : Type 0} (xs : List X) → length xs ≡ 0 → xs ≡ []
 empty [] e = refl
@@ -138,3 +146,31 @@ row_stays t row place is there e =
     loose true u h = refl
     loose false true h = cc
     loose false false h = refl
+
+-- ---- a value that is set where it stands
+
+value_stays : (at : ℕ) (v : Value) (r : Row) → has_value at v r ≡ true → with_value at v r ≡ r
+value_stays at v r e =
+    let new : Marked = record { value = v; marked = false } in
+    let own : get_or r.values at new ≡ new = (marked_decides (get_or r.values at new) new).0 e in
+    let same : slice_set r.values at new ≡ r.values = ap (slice_set r.values at) (sym own) ∙ set-get_or r.values at new in
+    λ i. record { id = r.id; sure = r.sure; values = same i }
+
+values_stay : (text : List ℕ) (at : ℕ) (v : Value) (rows : List Row) → stands text at v rows ≡ true → changed_at row_id text (with_value at v) rows ≡ rows
+values_stay text at v [] e = refl
+values_stay text at v (r ∷ rs) e = on (is_text text r.id) e (λ h. values_stay text at v rs h)
+  where
+    on : (b : Bool) → list_all (has_value at v) (cond b (r ∷ only row_id text rs) (only row_id text rs)) ≡ true →
+        (stands text at v rs ≡ true → changed_at row_id text (with_value at v) rs ≡ rs) →
+        (if b then with_value at v r else r) ∷ changed_at row_id text (with_value at v) rs ≡ r ∷ rs
+    on true h rest =
+        let p = both (has_value at v r) (stands text at v rs) h in
+        let one = value_stays at v r p.0 in
+        let more = rest p.1 in
+        λ i. one i ∷ more i
+    on false h rest = ap (λ z. r ∷ z) (rest h)
+
+pub set_stays : (t : TableData) (row column : List ℕ) (v w : Value) (found : Found) → IsTable t → find_column t.columns column ≡ Ok found →
+    is_there row_id row t.rows ≡ true → value_for found.kind v ≡ Ok w → stands row found.place w t.rows ≡ true → value_set t row column v ≡ Ok t
+set_stays t row column v w found is at there fits e =
+    rw (at, there, fits) (ap whole (λ i. table_of t.columns (values_stay row found.place w t.rows e i) t.is_open t.is_loose) ∙ whole_of t is)

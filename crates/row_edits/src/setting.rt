@@ -3,13 +3,14 @@ ghost use Rattle.std.specs.Prelude.{◌≡◌, ◌<◌, IfOk, OnOk, length, slic
 ghost use Rattle.cell_errors.specs.Answers.{Gives};
 ghost use Rattle.row_edits.specs.ByText.{changed_at};
 ghost use Rattle.row_edits.specs.Set.{with_value, value_set};
+ghost use Rattle.row_edits.specs.Staying as stay;
 ghost use Rattle.row_edits.specs.Ids.{row_id};
 
 use crate::by_text::{is_text, is_there};
 use crate::columns::{find_column, value_for};
 use cell_errors::{CellError, EvalFault};
 use dataset_types::{Marked, MarkedValues, Row, Rows, Table};
-use edit_results::{shared_if_same, whole_table};
+use edit_results::whole_table;
 use std::alloc::Global;
 use value_types::{ArcOf, Name, NoMemory, Value, Words};
 
@@ -50,24 +51,31 @@ fn with_value_in(
     Ok(all)
 }
 
-fn value_set(
-    alloc: Global,
-    table: &Table,
-    row: &Words,
-    column: &Name,
-    value: &Value,
-) -> Result<ArcOf<Table>, EvalFault>
-    ensures { Gives result (value_set table.now row.now column.now value.now) }
+fn has_value(at: usize, value: &Value, row: &Row) -> bool
+    ensures { result ≡ stay.has_value at value.now row.now }
 {
-    table.law_of_rules();
-    let found = find_column(table.columns().as_slice(), column)?;
-    if !is_there(alloc, row, table.rows().as_slice())? {
-        return Err(EvalFault::Error(CellError::NoRow));
+    match row.values.as_slice().get(at) {
+        Some(own) => own.value == *value && !own.marked,
+        None => true,
     }
-    let value = value_for(found.kind, value.copy(alloc)?)?;
-    let rows = with_value_in(alloc, row, found.place, &value, table.rows().copy(alloc)?)?;
-    let columns = table.columns().copy(alloc)?;
-    whole_table(alloc, columns, rows, table.is_open(), table.is_loose())
+}
+
+// Whether the value stands, unmarked, in each row of a text.
+fn stands(
+    alloc: Global,
+    row: &Words,
+    at: usize,
+    value: &Value,
+    rows: &[Row],
+) -> Result<bool, NoMemory>
+    ensures { IfOk result (λ b. b ≡ stay.stands row.now at value.now rows.now) }
+{
+    for one in rows {
+        if is_text(alloc, row, &one.id)? && !has_value(at, value, one) {
+            return Ok(false);
+        }
+    }
+    Ok(true)
 }
 
 /// A dataset with another value, unmarked, in a row's column.
@@ -86,6 +94,17 @@ pub fn set_value(
 ) -> Result<ArcOf<Table>, EvalFault>
     ensures { Gives result (value_set table.now row.now column.now value.now) }
 {
-    let made = value_set(alloc, table.get(), row, column, value)?;
-    Ok(shared_if_same(alloc, table, made)?)
+    let own = table.get();
+    own.law_of_rules();
+    let found = find_column(own.columns().as_slice(), column)?;
+    if !is_there(alloc, row, own.rows().as_slice())? {
+        return Err(EvalFault::Error(CellError::NoRow));
+    }
+    let value = value_for(found.kind, value.copy(alloc)?)?;
+    if stands(alloc, row, found.place, &value, own.rows().as_slice())? {
+        return Ok(table.copy(alloc)?);
+    }
+    let rows = with_value_in(alloc, row, found.place, &value, own.rows().copy(alloc)?)?;
+    let columns = own.columns().copy(alloc)?;
+    whole_table(alloc, columns, rows, own.is_open(), own.is_loose())
 }

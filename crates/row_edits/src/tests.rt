@@ -348,6 +348,7 @@ fn a_value_is_set_without_a_mark(rt: HostRuntime) -> Result<(), Fail> {
         ("#3", "price", &Value::Int(i64::MAX), "NoRow"),
         ("#2", "m", &Value::Int(i64::MAX), "NoColumn"),
         ("#1", "n", &three, "#1 3 2.5000; #2 2 ~null; "),
+        ("#1", "n", &Value::Int(1), "#1 1 2.5000; #2 2 ~null; "),
         ("#1", "price", &three, "#1 1 3.0000; #2 2 ~null; "),
         ("#2", "n", &three, "#1 1 2.5000; #2 3 ~null; "),
         ("#1", "n", &text, "TypeFault"),
