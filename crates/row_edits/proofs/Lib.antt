@@ -10,4 +10,5 @@ pub mod MoveLaws
 pub mod Staying
 pub mod SetLaws
 pub mod SortLaws
+pub mod SortStays
 mod Examples

@@ -65,7 +65,7 @@ sort_erases by t = on (sort_keys t.columns by)
 
 -- ---- what is shown
 
-bare_again : (columns : List Column) → bare_columns (map (qualified None) columns) ≡ columns
+pub bare_again : (columns : List Column) → bare_columns (map (qualified None) columns) ≡ columns
 bare_again [] = refl
 bare_again (c ∷ cs) = ap (λ z. c ∷ z) (bare_again cs)
 

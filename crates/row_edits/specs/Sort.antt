@@ -26,8 +26,12 @@ abbrev pub sort_keys : List Column → List SortName → Answer (List SortKey)
 sort_keys columns by = collect (sort_key columns) by
 
 -- the dataset as a relation, in order by these keys
+abbrev pub put_in_order : TableData → List SortKey → Answer TableData
+put_in_order t keys = and_then (ordered (table_rel None t) keys) rel_table
+
+-- in order by the keys of the named columns
 abbrev pub rows_sorted : TableData → List SortName → Answer TableData
-rows_sorted t by = and_then (sort_keys t.columns by) (λ keys. and_then (ordered (table_rel None t) keys) rel_table)
+rows_sorted t by = and_then (sort_keys t.columns by) (put_in_order t)
 
 -- ---- without marks
 

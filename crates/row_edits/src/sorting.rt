@@ -1,14 +1,14 @@
 //! `sort`.
-ghost use Rattle.std.specs.Prelude.{◌≤◌, length};
+ghost use Rattle.std.specs.Prelude.{◌≤◌, ◌↔◌, IsTrue, length};
 ghost use Rattle.cell_errors.specs.Answers.{Gives};
 ghost use Rattle.row_edits.specs.Sort as spec;
 ghost use Rattle.row_edits.specs.Sort.{rows_sorted};
+ghost use Rattle.row_edits.specs.Staying.{IsInOrder};
 
 use crate::columns::find_column;
 use cell_errors::EvalFault;
 use dataset_types::{Column, Table};
-use edit_results::shared_if_same;
-use rel_ops::sort as sort_rel;
+use rel_ops::{any_marked_key, is_sorted, sort as sort_rel};
 use relations::{Rel, SortKey, SortKeys};
 use sheet_commands::{SortName, SortNames};
 use std::alloc::Global;
@@ -37,14 +37,22 @@ fn sort_keys(alloc: Global, columns: &[Column], by: &[SortName]) -> Result<SortK
     Ok(keys)
 }
 
-fn rows_sorted(alloc: Global, table: &Table, by: &SortNames) -> Result<ArcOf<Table>, EvalFault>
-    ensures { Gives result (rows_sorted table.now by.now) }
+// A dataset in order by the keys of its columns.
+fn put_in_order(alloc: Global, table: &Table, keys: &SortKeys) -> Result<ArcOf<Table>, EvalFault>
+    ensures { Gives result (spec.put_in_order table.now keys.now) }
 {
     table.law_of_rules();
-    let keys = sort_keys(alloc, table.columns().as_slice(), by.as_slice())?;
     let rel = Rel::of_table(alloc, table, &None)?;
-    let sorted = sort_rel(alloc, rel, &keys)?.into_table(alloc)?;
+    let sorted = sort_rel(alloc, rel, keys)?.into_table(alloc)?;
     Ok(ArcOf::new(alloc, sorted)?)
+}
+
+// Whether that leaves it as it is.
+fn is_in_order(table: &Table, keys: &[SortKey]) -> bool
+    ensures { IsTrue result ↔ IsInOrder table.now keys.now }
+{
+    let rows = table.rows().as_slice();
+    is_sorted(keys, rows) && (table.is_loose() || !any_marked_key(keys, rows))
 }
 
 /// A dataset with its rows in the order of named columns, as ORDER BY gives it.
@@ -56,6 +64,11 @@ fn rows_sorted(alloc: Global, table: &Table, by: &SortNames) -> Result<ArcOf<Tab
 pub fn sort(alloc: Global, table: &ArcOf<Table>, by: &SortNames) -> Result<ArcOf<Table>, EvalFault>
     ensures { Gives result (rows_sorted table.now by.now) }
 {
-    let made = rows_sorted(alloc, table.get(), by)?;
-    Ok(shared_if_same(alloc, table, made)?)
+    let own = table.get();
+    own.law_of_rules();
+    let keys = sort_keys(alloc, own.columns().as_slice(), by.as_slice())?;
+    if is_in_order(own, keys.as_slice()) {
+        return Ok(table.copy(alloc)?);
+    }
+    put_in_order(alloc, own, &keys)
 }
