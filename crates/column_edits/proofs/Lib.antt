@@ -8,4 +8,5 @@ pub mod Standing
 pub mod ChangeLaws
 pub mod FormulaLaws
 pub mod FormulaCalls
+pub mod FillStays
 mod Examples

@@ -65,6 +65,10 @@ entered k v = Ok v
 abbrev pub entered_seen : ColumnType → Seen Value → Answer Marked
 entered_seen k s = and_then s.answer (λ v. and_then (entered k v) (λ w. Ok (record { value = w; marked = s.marked })))
 
+-- the expression's value over a row, as one of the column's type
+abbrev pub value_over : List ScopeColumn → Expr → List Pick → ℕ → ColumnType → Row → Answer Marked
+value_over names expr picks cell k r = entered_seen k (marked_over_row (bindings names r.values) picks cell expr)
+
 -- a column that takes a new value in each row
 abbrev pub emptied : LaidColumn → LaidColumn
 emptied c = record { column = c.column; source = None }
@@ -82,7 +86,7 @@ refilled name columns = emptied_at name (as_they_stand columns)
 -- a row under a layout, with the expression's value in the column without a source
 abbrev pub row_with : List ScopeColumn → List LaidColumn → Expr → List Pick → ℕ → ColumnType → Row → Answer Row
 row_with names layout expr picks cell k r =
-    and_then (entered_seen k (marked_over_row (bindings names r.values) picks cell expr)) (λ m. Ok (laid_row layout m r))
+    and_then (value_over names expr picks cell k r) (λ m. Ok (laid_row layout m r))
 
 -- a row with the expression's value in the column
 abbrev pub formula_row : Name → Expr → List Pick → ℕ → List Column → ColumnType → Row → Answer Row

@@ -10,3 +10,4 @@ pub mod Layout
 pub mod Same
 -- what the functions inside the crate ask of each other
 pub mod Rules
+pub mod Filling

@@ -1,15 +1,12 @@
--- What a layout has to keep, and a row of a formula.
+-- What a layout has to keep.
 use Rattle.std.specs.Prelude.{IsTrue, List, map}
 use Rattle.dataset_types.specs.declared.column.Column.{Column}
 use Rattle.dataset_types.specs.declared.row.Row.{Row}
 use Rattle.dataset_types.specs.Tables.{Distinct, row_fits}
 use Rattle.expr_meaning.specs.Names.{Name}
-use Rattle.cell_errors.specs.Answers.{Answer}
-use Rattle.column_edits.specs.declared.computing.InRow.{InRow}
 use Rattle.column_edits.specs.declared.layout.LaidColumn.{LaidColumn}
 use Rattle.column_edits.specs.Layout.{columns_of}
 use Rattle.column_edits.specs.Changes.{blank, laid_row}
-use Rattle.column_edits.specs.Formula.{row_with}
 
 -- the names of the columns of a layout
 abbrev pub names_of : List LaidColumn → List Name
@@ -19,7 +16,3 @@ names_of layout = map (λ c. c.column.name) layout
 pub record IsLayout (columns : List Column) (layout : List LaidColumn) : Type 0 where
   pub names : Distinct (names_of layout)
   pub fitting : (r : Row) → IsTrue (row_fits columns r) → IsTrue (row_fits (columns_of layout) (laid_row layout blank r))
-
--- a row with the value of a formula
-abbrev pub row_by : InRow → Row → Answer Row
-row_by how = row_with how.scope.now how.layout.now how.expr.now how.picks.now how.cell how.kind

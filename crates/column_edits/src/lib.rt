@@ -8,6 +8,7 @@
 
 mod commands;
 mod computing;
+mod filling;
 mod laws;
 mod layout;
 mod plans;

@@ -81,6 +81,13 @@ fn a_column_is_computed_row_by_row(rt: HostRuntime) {
         ),
         (
             "price",
+            "price",
+            BinaryOp::Add,
+            0,
+            "n:int price:fixed note:text | #1 3 2.5000 \"x\" | ?#2 1000000000000000 ~null \"y\" open",
+        ),
+        (
+            "price",
             "n",
             BinaryOp::Remainder,
             2,
