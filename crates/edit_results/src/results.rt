@@ -1,13 +1,12 @@
 //! Results as datasets.
-ghost use Rattle.std.specs.Prelude.{◌≡◌, IfOk};
 ghost use Rattle.cell_errors.specs.Answers.{Gives};
 ghost use Rattle.dataset_types.specs.Tables.{table_of};
 ghost use Rattle.edit_results.specs.Results.{KeepsRules, whole};
 
 use cell_errors::{CellError, EvalFault};
-use dataset_types::{Columns, Rows, Table, TableFault, table_same};
+use dataset_types::{Columns, Rows, Table, TableFault};
 use std::alloc::Global;
-use value_types::{ArcOf, NoMemory};
+use value_types::ArcOf;
 
 /// The dataset of these parts, to be shared, where it is within the limits.
 ///
@@ -28,18 +27,4 @@ pub fn whole_table(
         Err(TableFault::TooLarge) => Err(EvalFault::Error(CellError::TooLarge)),
         Err(TableFault::NoMemory) => Err(EvalFault::NoMemory),
     }
-}
-
-/// A result: where it is equal to the given dataset, that one, shared once more.
-pub fn shared_if_same(
-    alloc: Global,
-    given: &ArcOf<Table>,
-    made: ArcOf<Table>,
-) -> Result<ArcOf<Table>, NoMemory>
-    ensures { IfOk result (λ t. t ≡ made) }
-{
-    if table_same(given.get(), made.get()) {
-        return given.copy(alloc);
-    }
-    Ok(made)
 }
