@@ -20,6 +20,7 @@ use Rattle.relations.specs.Batches.{both, gathered}
 use Rattle.relations.specs.Conditions.{test_of, kept}
 use Rattle.relations.proofs.Loops.{resumed, begun, went_on, went_on_at, stops, stops_at, ended, ended_at}
 use Rattle.relations.proofs.Rules.{or_parts, all_of, all_pass, all_pass_unmarked, ids_distinct}
+use Rattle.relations.proofs.Revalued.{none_under, still_under}
 use Rattle.relations.proofs.KeptRows.{kept_has_only, kept_fits, kept_sure}
 use Rattle.rel_ops.specs.Filter.{where_row, filtered}
 
@@ -84,7 +85,10 @@ where_rules rel condition picks cell b is e =
     }
 
 -- what the proof of the loop uses
-pub ruleset keeping = (begun, kept_on, kept_on_at, ended, ended_at)
+pub ruleset keeping = (begun, kept_on, kept_on_at, ended, ended_at, none_under)
+
+-- what the proof of binding a row uses
+pub ruleset binding = (still_under)
 
 -- what the proof of one row uses
 pub ruleset left_out = (left_out_adds)

@@ -2,6 +2,7 @@
 ghost use Rattle.std.specs.Prelude.{◌≡◌, IfOk, OnOk, map};
 ghost use Rattle.cell_errors.specs.Answers.{Gives};
 ghost use Rattle.relations.specs.Batches.{both, gathered};
+ghost use Rattle.relations.specs.Bound.{AreUnder};
 ghost use Rattle.relations.specs.Conditions.{kept};
 ghost use Rattle.relations.specs.Rels.{qualified, table_rel};
 ghost use Rattle.rel_ops.specs.Filter.{row_test, where_row, filtered};
@@ -9,23 +10,28 @@ ghost use Rattle.rel_ops.specs.Filter.{row_test, where_row, filtered};
 use cell_errors::EvalFault;
 use dataset_types::{Column, Picks, Row, Rows, Table};
 use expr_lang::Expr;
-use expr_meaning::{Scope, ScopeColumn};
-use relations::{Batch, Rel, RelParts, Test, bind, test_row};
+use expr_meaning::{Bindings, Scope, ScopeColumn};
+use relations::{Batch, Rel, RelParts, Test, bind_again, test_row};
 use std::alloc::Global;
 use value_types::{Name, NoMemory};
 
+/// The condition over a row. Only the values in `bound` are of the row before it.
+#[tactic(auto, using(crate::proofs::WhereRows::binding))]
 fn test_at(
     alloc: Global,
     columns: &[ScopeColumn],
+    bound: &mut Bindings,
     condition: &Expr,
     picks: &Picks,
     cell: u32,
     row: &Row,
 ) -> Result<Test, EvalFault>
-    ensures { Gives result (row_test columns.now condition.now picks.now cell row.now) }
+    requires { AreUnder columns.now bound.old }
+    ensures value { Gives result (row_test columns.now condition.now picks.now cell row.now) }
+    ensures bound { OnOk result (AreUnder columns.now bound.new) }
 {
-    let bound = bind(alloc, columns, row.values.as_slice())?;
-    test_row(alloc, condition, &bound, picks, cell)
+    bind_again(alloc, bound, columns, row.values.as_slice())?;
+    test_row(alloc, condition, bound, picks, cell)
 }
 
 #[tactic(auto, using(crate::proofs::WhereRows::keeping))]
@@ -40,8 +46,9 @@ fn kept_rows(
     ensures { Gives result (gathered (where_row columns.now condition.now picks.now cell) rows) }
 {
     let mut all = Batch::new(alloc)?;
+    let mut bound = Bindings::new(alloc)?;
     for row in rows.into_vec() {
-        let test = test_at(alloc, columns, condition, picks, cell, &row)?;
+        let test = test_at(alloc, columns, &mut bound, condition, picks, cell, &row)?;
         all.keep(alloc, row, test)?;
     }
     Ok(all)
@@ -128,8 +135,9 @@ fn kept_copies(
     ensures { Gives result (gathered (where_row columns.now condition.now picks.now cell) rows.now) }
 {
     let mut all = Batch::new(alloc)?;
+    let mut bound = Bindings::new(alloc)?;
     for row in rows {
-        let test = test_at(alloc, columns, condition, picks, cell, row)?;
+        let test = test_at(alloc, columns, &mut bound, condition, picks, cell, row)?;
         keep_copy(alloc, &mut all, row, test)?;
     }
     Ok(all)

@@ -1,4 +1,6 @@
 pub mod Binds
+pub mod Revalued
+pub mod ReadPlaces
 pub mod Loops
 pub mod Gathered
 pub mod Rules

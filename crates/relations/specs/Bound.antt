@@ -1,5 +1,5 @@
 -- The columns of a row with their values, which the names of an expression stand for.
-use Rattle.std.specs.Prelude.{Option, List, [], ◌∷◌}
+use Rattle.std.specs.Prelude.{◌≡◌, Option, List, [], ◌∷◌, map}
 use Rattle.value_types.specs.declared.value.Value.{Value}
 use Rattle.dataset_types.specs.declared.row.Marked.{Marked}
 use Rattle.expr_meaning.specs.declared.bindings.Binding.{Binding}
@@ -35,3 +35,17 @@ plain_bindings = each_bound bound_plain
 -- those of what is shown of a row
 abbrev pub known_bindings : List ScopeColumn → List (Option Value) → List KnownBinding
 known_bindings = each_bound bound_known
+
+-- a binding with another value
+abbrev pub with_value : Binding → Marked → Binding
+with_value b m = record { qualifier = b.qualifier; name = b.name; value = m }
+
+-- bindings with other values
+abbrev pub revalued : List Binding → List Marked → List Binding
+revalued [] ms = []
+revalued (b ∷ bs) [] = b ∷ bs
+revalued (b ∷ bs) (m ∷ ms) = with_value b m ∷ revalued bs ms
+
+-- the bindings are these columns with the values that they have
+abbrev pub AreUnder : List ScopeColumn → List Binding → Type 0
+AreUnder columns row = row ≡ bindings columns (map (λ b. b.value) row)

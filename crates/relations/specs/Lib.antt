@@ -2,6 +2,8 @@
 pub mod Rels
 -- the columns of a row with their values
 pub mod Bound
+-- expressions that are the value at a place of a row
+pub mod Places
 -- what a step makes of each row, in order
 pub mod Batches
 -- what a condition makes of a row

@@ -13,15 +13,17 @@ mod into_table;
 mod laws;
 mod limits;
 mod parts;
+mod places;
 mod rel;
 mod step;
 #[cfg(test)]
 mod tests;
 
 pub use batch::Batch;
-pub use bound_row::{bind, bind_more};
+pub use bound_row::{bind, bind_again, bind_more};
 pub use condition::{Test, test_row};
 pub use laws::law_of_types;
 pub use parts::{ColumnRefs, Item, Items, RelParts, SortKey, SortKeys};
+pub use places::ColumnPlaces;
 pub use rel::Rel;
 pub use step::{Step, gather};

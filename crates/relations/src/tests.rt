@@ -2,7 +2,7 @@
 ghost use Rattle.std.specs.Prelude.{IfOk};
 ghost use Rattle.dataset_types.specs.Tables.{Distinct, row_ids};
 
-use crate::{Batch, Rel, Test, bind, bind_more, test_row};
+use crate::{Batch, ColumnPlaces, Rel, Test, bind, bind_again, bind_more, test_row};
 use cell_errors::EvalFault;
 use dataset_types::{
     Column, Columns, Marked, MarkedValues, Picks, Row, Rows, Table, all_sure, law_of_numbers,
@@ -136,6 +136,56 @@ fn further_columns_are_bound_after_those_that_are_there(rt: HostRuntime) {
     let all = bound_twice(&rt, alloc).expect(&rt, "memory");
     assert_eq!(rt; all.len(), 2);
     assert!(rt; all.as_slice().iter().all(|binding| binding.value.marked));
+}
+
+// The values of a row with 8, put in place of those of a row that is bound after none.
+#[tactic(auto, using(crate::proofs::Revalued::under))]
+fn bound_again(rt: &impl Abort, alloc: Global) -> Result<Bindings, EvalFault> {
+    let rel = sevens(rt, alloc)?;
+    let columns = rel.columns().as_slice();
+    let mut all = Bindings::new(alloc)?;
+    bind_again(
+        alloc,
+        &mut all,
+        columns,
+        row_of(alloc, 7)?.values.as_slice(),
+    )?;
+    bind_again(
+        alloc,
+        &mut all,
+        columns,
+        row_of(alloc, 8)?.values.as_slice(),
+    )?;
+    Ok(all)
+}
+
+#[test]
+fn a_row_that_is_bound_again_has_its_own_values(rt: HostRuntime) {
+    let alloc = rt.alloc();
+    let all = bound_again(&rt, alloc).expect(&rt, "memory");
+    assert_eq!(rt; all.len(), 1);
+    assert!(rt;
+        all.as_slice()
+            .iter()
+            .all(|binding| binding.value.value == Value::Int(8))
+    );
+}
+
+fn place_of(rt: &impl Abort, alloc: Global, name: &str) -> Result<Option<usize>, EvalFault> {
+    let rel = sevens(rt, alloc)?;
+    let places = ColumnPlaces::new(alloc, rel.columns().as_slice())?;
+    let qualifier = Some(named("t")?);
+    let name = named(name)?;
+    Ok(places.place_of(&Expr::Column { qualifier, name }))
+}
+
+#[test]
+fn a_column_is_found_at_its_place(rt: HostRuntime) {
+    let alloc = rt.alloc();
+    let there = place_of(&rt, alloc, "a").expect(&rt, "memory");
+    assert_eq!(rt; there, Some(0));
+    let missing = place_of(&rt, alloc, "b").expect(&rt, "memory");
+    assert_eq!(rt; missing, None);
 }
 
 fn doubted(alloc: Global) -> Result<Batch, NoMemory> {

@@ -1,6 +1,6 @@
-use Rattle.std.proofs.Common.{sym, subst, ap}
+use Rattle.std.proofs.Common.{sym, subst}
 use Rattle.dataset_types.specs.Tables.{Distinct, column_names}
-use Rattle.relations.specs.Rels.{RelData, IsRel, rel_of, bare_columns}
+use Rattle.relations.specs.Rels.{RelData, IsRel, bare_columns}
 use Rattle.relations.proofs.rel.Rel.into_table.Goals as goal
 
 pub new-requires-clause-names : goal.new-requires-clause-names
