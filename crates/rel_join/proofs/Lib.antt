@@ -4,7 +4,7 @@ pub mod ErasedJoin
 pub mod ShownJoin
 pub mod SameJoin
 pub mod ApartKeys
-pub mod ColumnPlaces
+pub mod ComparedPlaces
 pub mod PairLoop
 pub mod FewRows
 mod Examples

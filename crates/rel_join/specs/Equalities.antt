@@ -1,5 +1,5 @@
 -- ON that compares two columns by their places.
-use Rattle.std.specs.Prelude.{◌≡◌, ℕ, ◌+◌, ◌||◌, length, slice_get, Some, List, [], ◌∷◌}
+use Rattle.std.specs.Prelude.{◌≡◌, ℕ, ◌||◌, length, slice_get, Some, List}
 use Rattle.value_types.specs.declared.value.Value.{Value}
 use Rattle.dataset_types.specs.declared.picks.Pick.{Pick}
 use Rattle.dataset_types.specs.declared.row.Marked.{Marked}
@@ -9,23 +9,10 @@ use Rattle.expr_lang.specs.declared.expr.Expr.{Expr}
 use Rattle.expr_ops.specs.Compare.{equal}
 use Rattle.expr_meaning.specs.declared.bindings.ScopeColumn.{ScopeColumn}
 use Rattle.expr_meaning.specs.Meaning.{marked_over_row}
-use Rattle.expr_meaning.specs.Sees.{seen}
 use Rattle.relations.specs.declared.condition.Test.{Test}
 use Rattle.relations.specs.Bound.{bindings}
 use Rattle.relations.specs.Conditions.{test_of}
-use Rattle.rel_join.specs.declared.equality.ColumnAt.{ColumnAt}
 use Rattle.rel_join.specs.declared.equality.Equality.{Equality}
-
--- each column with its place, from this place on
-abbrev pub placed_from : ℕ → List ScopeColumn → List ColumnAt
-placed_from n [] = []
-placed_from n (c ∷ cs) = record { place = n; column = c } ∷ placed_from (n + 1) cs
-
--- the expression is the value at the place, over any values of these columns
-abbrev pub ReadsPlace : List ScopeColumn → ℕ → Expr → Type 0
-ReadsPlace columns place e =
-    (values : List Marked) (picks : List Pick) (cell : ℕ) (m : Marked) → length values ≡ length columns → slice_get values place ≡ Some m →
-    marked_over_row (bindings columns values) picks cell e ≡ seen m
 
 -- whether two values are equal, marked where one of them is
 abbrev pub equal_seen : Marked → Marked → Seen Value

@@ -8,65 +8,17 @@ ghost use Rattle.rel_join.specs.Equalities as spec;
 use cell_errors::CellError;
 use dataset_types::Marked;
 use expr_lang::{BinaryOp, Expr};
-use expr_meaning::{Named, ScopeColumn, meant};
+use expr_meaning::ScopeColumn;
 use expr_ops::{equal, is_true};
-use relations::Test;
+use relations::{ColumnPlaces, Test};
 use std::alloc::Global;
-use value_types::{ListOf, Name, NoMemory};
+use value_types::NoMemory;
 
 /// The places of the two columns that are compared, counted from 0 among those of both sides.
 #[derive(Clone, Copy)]
 pub struct Equality {
     pub first: usize,
     pub second: usize,
-}
-
-/// A column, and its place among others, counted from 0.
-#[derive(Drop)]
-pub struct ColumnAt {
-    pub place: usize,
-    pub column: ScopeColumn,
-}
-
-impl Named for ColumnAt {
-    ghost qualifier_of = { λ p. p.column.qualifier };
-
-    ghost name_of = { λ p. p.column.column.name };
-
-    fn qualifier(&self) -> &Option<Name> {
-        &self.column.qualifier
-    }
-
-    fn name(&self) -> &Name {
-        &self.column.column.name
-    }
-}
-
-fn placed(alloc: Global, columns: &[ScopeColumn]) -> Result<ListOf<ColumnAt>, NoMemory>
-    ensures { IfOk result (λ ps. ps ≡ spec.placed_from 0 columns.now) }
-{
-    let mut all = ListOf::new(alloc)?;
-    for (place, column) in columns.iter().enumerate() {
-        let column = column.copy(alloc)?;
-        all.push(alloc, ColumnAt { place, column })?;
-    }
-    Ok(all)
-}
-
-/// The place of the column that an expression is, where it is one of these.
-fn place_of(alloc: Global, columns: &[ScopeColumn], expr: &Expr) -> Result<Option<usize>, NoMemory>
-    ensures { IfOk result (λ found. IfSome found (λ place. spec.ReadsPlace columns.now place expr.now)) }
-{
-    match expr {
-        Expr::Column { qualifier, name } => {
-            let all = placed(alloc, columns)?;
-            match meant(all.as_slice(), qualifier, name) {
-                Ok(at) => Ok(Some(at.place)),
-                Err(_) => Ok(None),
-            }
-        }
-        _ => Ok(None),
-    }
 }
 
 /// The places that an operator of two operands compares, where it is `=` and both are columns.
@@ -82,9 +34,8 @@ fn equality_by(
 {
     match op {
         BinaryOp::Equal => {
-            let first = place_of(alloc, columns, first)?;
-            let second = place_of(alloc, columns, second)?;
-            match (first, second) {
+            let places = ColumnPlaces::new(alloc, columns)?;
+            match (places.place_of(first), places.place_of(second)) {
                 (Some(first), Some(second)) => Ok(Some(Equality { first, second })),
                 _ => Ok(None),
             }

@@ -111,7 +111,7 @@ fn bound_pairs(alloc: Global, job: &Job, left: &Row) -> Result<Batch, EvalFault>
 }
 
 /// The value at a place among those of both rows, counted from 0.
-#[tactic(auto, using(crate::proofs::ColumnPlaces::placing))]
+#[tactic(auto, using(crate::proofs::ComparedPlaces::placing))]
 fn value_at<'a>(left: &'a [Marked], right: &'a [Marked], place: usize) -> Option<&'a Marked>
     ensures { option_copied result ≡ slice_get (left.entry.now ++ right.entry.now) place }
 {

@@ -1,7 +1,7 @@
 use Rattle.std.proofs.Common.{◌≡◌, ◌++◌, ◌∙◌, sym, length, slice_get, Some, arith}
 use Rattle.std.proofs.lemmas.Grind.{common_steps}
 use Rattle.std.proofs.lemmas.Result.{err_from_is_err_and}
-use Rattle.rel_join.proofs.ColumnPlaces.{on_places}
+use Rattle.rel_join.proofs.ComparedPlaces.{on_places}
 use Rattle.rel_join.proofs.pairs.test_places.Goals as goal
 
 pub returns-in_err-test_equal : goal.returns-in_err-test_equal
