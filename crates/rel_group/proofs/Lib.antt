@@ -1,11 +1,13 @@
 pub mod Places
 pub mod Comparing
 pub mod Looping
+pub mod Gathering
 pub mod KeyOrder
 pub mod Cuts
 pub mod Natural
 pub mod KeyedGroups
 pub mod Lots
+pub mod ReadLots
 pub mod Placed
 pub mod GroupFits
 pub mod GroupRules

@@ -15,7 +15,7 @@ use Rattle.relations.specs.Batches.{both, gathered}
 use Rattle.rel_group.specs.declared.parts.Lot.{Lot}
 use Rattle.rel_group.specs.declared.parts.TestedLot.{TestedLot}
 use Rattle.rel_group.specs.declared.query.Query.{Query}
-use Rattle.rel_group.specs.Groups.{bound_rows, keyed_groups, groups, whole_group, setting_under}
+use Rattle.rel_group.specs.Groups.{bound_rows, keyed_groups, groups, setting_under}
 use Rattle.rel_group.specs.Group.{tested, group_row, group_rows, key_row}
 use Rattle.rel_group.specs.Calls.{lots_of, AreLots, rows_by, bound_lot, StandFor, key_lot, IsOf, bound_in, bound_test, setting_in, having_in, tested_in, row_in, group_rows_in, rows_in}
 use Rattle.rel_group.proofs.KeyedGroups.{lots_stand}
@@ -23,7 +23,7 @@ use Rattle.rel_group.proofs.KeyedGroups.{lots_stand}
 -- ---- the rows at places
 
 module _ (rows : List Row) where
-  next_rows : (ps : List ℕ) (i p : ℕ) → i < length ps → p ≡ get_or ps i p →
+  pub next_rows : (ps : List ℕ) (i p : ℕ) → i < length ps → p ≡ get_or ps i p →
       rows_by rows (drop i ps) ≡ cons_option (slice_get rows p) (rows_by rows (drop (i + 1) ps))
   next_rows ps i p h e = ap (rows_by rows) (drop_more ps i p h) ∙ ap (λ q. cons_option (slice_get rows q) (rows_by rows (drop (i + 1) ps))) (sym e)
 

@@ -1,6 +1,6 @@
 -- Rows put one after another into the lots of their keys make the lots of all keys.
-use Rattle.std.proofs.Common.{◌≡◌, ℕ, zero, suc, ◌+◌, ◌<◌, ◌≤◌, Bool, true, false, ◌||◌, Option, Some, None, Result, Ok, Err, OnOk, List, [], ◌∷◌, ◌++◌, map, cond, length, take, drop, get_or, set, refl, subst, ap, ◌∙◌, sym, inl, inr, append-nil, arith}
-use Rattle.std.specs.Prelude.{if◌then◌else◌, slice_get}
+use Rattle.std.proofs.Common.{◌≡◌, ℕ, suc, ◌+◌, ◌<◌, ◌≤◌, Bool, true, false, ◌||◌, Option, Result, Ok, Err, OnOk, List, [], ◌∷◌, ◌++◌, map, cond, length, take, drop, get_or, set, refl, subst, ap, ◌∙◌, sym, inl, inr, append-nil, arith}
+use Rattle.std.specs.Prelude.{if◌then◌else◌}
 use Rattle.std.specs.List.{list_any, insert}
 use Rattle.std.specs.Ordering.{is_gt}
 use Rattle.std.specs.declared.cmp.Ordering.{Ordering}
@@ -14,8 +14,8 @@ use Rattle.relations.proofs.Gathered.{Each}
 use Rattle.rel_group.specs.declared.parts.Lot.{Lot}
 use Rattle.rel_group.specs.declared.keyed.Keyed.{Keyed}
 use Rattle.rel_group.specs.Keys.{key_cmp, put_by, put, ascending, rows_at}
-use Rattle.rel_group.specs.Calls.{with_key, keyed_from, all_keyed, lots_of, single, with_row, collected, all_collected, placed_by, placed, place_of, is_of_key, has_key}
-use Rattle.rel_group.proofs.KeyOrder.{Key, key_exact, Below, below_apart, above, not_same, Stands, Ascends, ascends, into_ascending, each_below, same_ascending, same_itself}
+use Rattle.rel_group.specs.Calls.{with_key, keyed_from, all_keyed, lots_of, single, with_row, collected, all_collected, placed_by, placed, place_of, has_key}
+use Rattle.rel_group.proofs.KeyOrder.{Key, key_exact, Below, below_apart, above, not_same, Stands, Ascends, ascends, into_ascending, each_below, same_ascending}
 use Rattle.rel_group.proofs.Cuts.{key, or_after, or_false, no_rows}
 
 -- ---- the place of a key

@@ -1,5 +1,5 @@
 -- What the functions promise each other: rows with their keys, and how they are put into lots, which stand for groups.
-use Rattle.std.specs.Prelude.{◌≡◌, ℕ, suc, Bool, true, false, ◌||◌, ◌+◌, if◌then◌else◌, Option, Some, None, Ok, List, [], ◌∷◌, ◌++◌, map, slice_get}
+use Rattle.std.specs.Prelude.{◌≡◌, ℕ, suc, Bool, true, false, ◌||◌, ◌+◌, nat_eq, if◌then◌else◌, Option, Some, None, Result, Ok, Err, List, [], ◌∷◌, ◌++◌, length, map, slice_get}
 use Rattle.std.specs.List.{list_any, filter_map}
 use Rattle.std.specs.Ordering.{is_lt, is_gt}
 use Rattle.std.specs.declared.cmp.Ordering.{Ordering}
@@ -9,10 +9,14 @@ use Rattle.value_types.specs.declared.row_id.RowId.{Key}
 use Rattle.value_types.specs.Order.{same_key}
 use Rattle.dataset_types.specs.declared.row.Marked.{Marked}
 use Rattle.dataset_types.specs.declared.row.Row.{Row}
-use Rattle.cell_errors.specs.Answers.{Answer, and_then, collect}
+use Rattle.cell_errors.specs.declared.fault.EvalFault.{EvalFault}
+use Rattle.cell_errors.specs.Answers.{Answer, Fails, and_then, collect}
 use Rattle.expr_lang.specs.declared.expr.Expr.{Expr}
+use Rattle.expr_ops.specs.declared.aggregates.Aggregate.{Aggregate}
+use Rattle.expr_meaning.specs.declared.bindings.Binding.{Binding}
 use Rattle.expr_meaning.specs.declared.bindings.ScopeColumn.{ScopeColumn}
 use Rattle.expr_meaning.specs.declared.setting.Setting.{Setting}
+use Rattle.expr_meaning.specs.Meaning.{marked_at, over_at}
 use Rattle.expr_meaning.specs.Settings.{MarkedSetting}
 use Rattle.expr_meaning.specs.Sees.{setting_of}
 use Rattle.relations.specs.declared.batch.Batch.{Batch}
@@ -24,6 +28,8 @@ use Rattle.rel_group.specs.declared.parts.Lot.{Lot}
 use Rattle.rel_group.specs.declared.parts.TestedLot.{TestedLot}
 use Rattle.rel_group.specs.declared.keyed.Keyed.{Keyed}
 use Rattle.rel_group.specs.declared.query.Query.{Query}
+use Rattle.rel_group.specs.declared.reading.Operands.{Operands}
+use Rattle.rel_ops.specs.Project.{marked_value}
 use Rattle.rel_group.specs.Keys.{key_cmp, ascending, rows_at}
 use Rattle.rel_group.specs.Groups.{Group, key_values, key_columns, is_certain, is_uncertain, bound_rows, groups, certain, setting_under, group_types}
 use Rattle.rel_group.specs.Group.{Tested, group_columns, condition_test, having_test, group_value, group_values, group_row, rows_of, grouped_to}
@@ -149,9 +155,13 @@ is_marked (Some m) = m.marked
 abbrev pub key_lt : Keyed → Keyed → Bool
 key_lt a b = is_lt (key_cmp a.key b.key)
 
+-- a query whose columns with places are those of its relation
+abbrev pub IsPlaced : Query → Type 0
+IsPlaced q = q.placed.now ≡ q.rel.now.columns
+
 -- a query whose columns and doubts are those of its relation
 abbrev pub IsOf : Query → Type 0
-IsOf q = (q.columns.now ≡ key_columns q.rel.now.columns q.places.now) × (q.uncertain ≡ is_uncertain (Some q.places.now) q.rel.now)
+IsOf q = (q.columns.now ≡ key_columns q.rel.now.columns q.places.now) × (q.uncertain ≡ is_uncertain (Some q.places.now) q.rel.now) × IsPlaced q
 
 -- the group that a lot of a query stands for
 abbrev pub bound_in : Query → Lot → Group
@@ -172,6 +182,10 @@ having_in q having g = having_test having q.picks.now q.cell (setting_in q g)
 -- a lot with the test of its group
 abbrev pub tested_in : Query → Option Expr → Lot → Answer TestedLot
 tested_in q having g = and_then (having_in q having (bound_in q g)) (λ t. Ok (record { lot = g; test = t }))
+
+-- the columns of the key with the values of a lot's key
+abbrev pub key_bindings : Query → Lot → List Binding
+key_bindings q g = (setting_in q (bound_in q g)).row
 
 -- the value of an item
 abbrev pub item_in : Setting → Item → Answer Marked
@@ -204,3 +218,45 @@ columns_in q items = group_columns (group_types q.rel.now.columns q.places.now) 
 -- the rows of the groups of a query under the output columns
 abbrev pub grouped_in : Query → List ScopeColumn → Option Expr → List Item → Answer RelData
 grouped_in q columns having items = grouped_to columns q.rel.now q.places.now having items q.picks.now q.cell
+
+-- ---- items that are read at places
+
+-- what a call answers is what the definition gives, unless it leaves that to another or memory ran out
+abbrev pub MayGive : {A : Type 0} → Result (Option A) EvalFault → Answer A → Type 0
+MayGive (Ok None) given = Unit {0}
+MayGive (Ok (Some value)) given = given ≡ Ok value
+MayGive (Err f) given = Fails f given
+
+-- the value of an expression over the group of a lot
+abbrev pub expr_in : Query → Lot → Expr → Answer Marked
+expr_in q g e = marked_value (marked_at (setting_in q (bound_in q g)) q.picks.now q.cell e)
+
+-- the value of an item over that group
+abbrev pub item_at : Query → Lot → Item → Answer Marked
+item_at q g i = expr_in q g i.expr
+
+-- an aggregate of an expression over that group
+abbrev pub over_in : Aggregate → Query → Lot → Expr → Answer Marked
+over_in op q g e = marked_value (over_at op (setting_in q (bound_in q g)) q.picks.now q.cell e)
+
+-- the value at a place, which counts from 0, of a row that has so many
+abbrev pub value_in : ℕ → ℕ → Row → Option Marked
+value_in width place r = if nat_eq (length r.values) width then slice_get r.values place else None
+
+-- one operand more
+abbrev pub with_operand : Operands → Marked → Operands
+with_operand all m = record { values = all.values ++ m.value ∷ []; marked = all.marked || m.marked }
+
+-- what comes after one operand more, where there is one
+abbrev pub operand_then : Operands → Option Marked → (Operands → Option Operands) → Option Operands
+operand_then all None next = None
+operand_then all (Some m) next = next (with_operand all m)
+
+-- these operands, and then the values at a place of rows that have so many, or none where a row has not
+abbrev pub operands_from : ℕ → ℕ → Operands → List Row → Option Operands
+operands_from width place all [] = Some all
+operands_from width place all (r ∷ rs) = operand_then all (value_in width place r) (λ more. operands_from width place more rs)
+
+-- the values at a place of rows that have so many
+abbrev pub operands_at : ℕ → ℕ → List Row → Option Operands
+operands_at width place rows = operands_from width place (record { values = []; marked = false }) rows

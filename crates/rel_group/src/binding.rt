@@ -22,7 +22,8 @@ fn bound(alloc: Global, columns: &[ScopeColumn], row: &Row) -> Result<Bindings, 
     Ok(all)
 }
 
-fn row_at(rows: &[Row], place: usize) -> Option<&Row>
+/// The row at a place, counted from 0.
+pub fn row_at(rows: &[Row], place: usize) -> Option<&Row>
     ensures { option_copied result ≡ slice_get rows.now place }
 {
     rows.get(place)

@@ -7,12 +7,12 @@ ghost use Rattle.rel_ops.specs.Project.{item_names};
 ghost use Rattle.rel_group.specs.Group as spec;
 ghost use Rattle.rel_group.specs.Groups as groups;
 ghost use Rattle.rel_group.specs.Keys.{are_places};
-ghost use Rattle.rel_group.specs.Calls.{IsOf, columns_in, group_rows_in, grouped_in, rows_in};
+ghost use Rattle.rel_group.specs.Calls.{IsOf, IsPlaced, columns_in, group_rows_in, grouped_in, rows_in};
 
 use crate::columns::{group_columns, key_columns};
 use crate::cutting::lots;
 use crate::having::all_tested;
-use crate::items::OfGroup;
+use crate::items::all_rows;
 use crate::parts::Lots;
 use crate::query::Query;
 use crate::uncertain::is_uncertain;
@@ -20,7 +20,7 @@ use cell_errors::EvalFault;
 use dataset_types::Picks;
 use expr_lang::Expr;
 use expr_meaning::{Scope, TypedSetting};
-use relations::{Batch, ColumnRefs, Item, Items, Rel, gather};
+use relations::{Batch, ColumnPlaces, ColumnRefs, Item, Items, Rel};
 use std::alloc::Global;
 
 fn group_rows(
@@ -30,12 +30,12 @@ fn group_rows(
     query: Query,
     lots: Lots,
 ) -> Result<Batch, EvalFault>
+    requires placed { IsPlaced query }
     ensures { Gives result
         (group_rows_in query.entry (option_copied having.entry) items.now lots) }
 {
     let tested = all_tested(alloc, having, lots, &query)?;
-    let step = OfGroup { items, query };
-    gather(alloc, &step, tested.as_slice())
+    all_rows(alloc, items, tested.as_slice(), &query)
 }
 
 fn rows_of(
@@ -93,8 +93,10 @@ pub fn group(
         group: Some(rel.columns()),
     };
     let columns = group_columns(alloc, &types, items.as_slice())?;
+    let placed = ColumnPlaces::new(alloc, rel.columns().as_slice())?;
     let query = Query {
         rel,
+        placed: &placed,
         columns: &of_key,
         places,
         uncertain: is_uncertain(Some(places), rel),

@@ -1,18 +1,20 @@
 //! The items over groups.
 ghost use Rattle.std.specs.Prelude.{◌≡◌, IfOk};
 ghost use Rattle.cell_errors.specs.Answers.{Gives};
+ghost use Rattle.relations.specs.Batches.{gathered};
 ghost use Rattle.relations.specs.Conditions.{kept};
 ghost use Rattle.rel_group.specs.Calls as calls;
-ghost use Rattle.rel_group.specs.Calls.{bound_in, item_in, items_in, lot_row};
+ghost use Rattle.rel_group.specs.Calls.{IsPlaced, bound_in, item_in, items_in, key_bindings, lot_row};
 
 use crate::binding::bound_lot;
 use crate::having::key_row;
 use crate::parts::{Lot, TestedLot};
 use crate::query::Query;
+use crate::reading::read_values;
 use cell_errors::EvalFault;
 use dataset_types::{Marked, MarkedValues, Row, Rows};
 use expr_meaning::{Bindings, Setting, eval_in};
-use relations::{Batch, Item, Step, Test};
+use relations::{Batch, Item, Test};
 use std::alloc::Global;
 use value_types::{NoMemory, RowId};
 
@@ -38,16 +40,17 @@ fn group_values(alloc: Global, items: &[Item], setting: &Setting) -> Result<Mark
 fn values_over(
     alloc: Global,
     items: &[Item],
-    lot: &Lot,
+    row: &Bindings,
     rows: &[Bindings],
     query: &Query,
+    lot: &Lot,
 ) -> Result<MarkedValues, EvalFault>
-    requires { rows.now ≡ (bound_in query.now lot.now).rows }
+    requires row { row.now ≡ key_bindings query.now lot.now }
+    requires rows { rows.now ≡ (bound_in query.now lot.now).rows }
     ensures { Gives result (calls.values_in query.now items.now (bound_in query.now lot.now)) }
 {
-    let row = key_row(alloc, query, lot)?;
     let setting = Setting {
-        row: &row,
+        row,
         group: Some(rows),
         marked: query.uncertain,
         picks: query.picks,
@@ -56,16 +59,24 @@ fn values_over(
     group_values(alloc, items, &setting)
 }
 
+/// The values of the items. The rows of the lot are bound only where an item can't be read without.
 fn values_in(
     alloc: Global,
     items: &[Item],
     lot: &Lot,
     query: &Query,
 ) -> Result<MarkedValues, EvalFault>
+    requires placed { IsPlaced query.now }
     ensures { Gives result (calls.values_in query.now items.now (bound_in query.now lot.now)) }
 {
-    let rows = bound_lot(alloc, query, lot)?;
-    values_over(alloc, items, lot, rows.as_slice(), query)
+    let row = key_row(alloc, query, lot)?;
+    match read_values(alloc, items, &row, lot, query)? {
+        Some(values) => Ok(values),
+        None => {
+            let rows = bound_lot(alloc, query, lot)?;
+            values_over(alloc, items, &row, rows.as_slice(), query, lot)
+        }
+    }
 }
 
 fn kept_row(alloc: Global, lot: &Lot, values: MarkedValues, test: Test) -> Result<Batch, NoMemory>
@@ -82,25 +93,42 @@ fn kept_row(alloc: Global, lot: &Lot, values: MarkedValues, test: Test) -> Resul
     Ok(all)
 }
 
-/// The items of the groups that HAVING keeps.
-#[derive(Clone, Copy)]
-pub struct OfGroup<'a> {
-    pub items: &'a [Item],
-    pub query: Query<'a>,
+/// The row of a group that HAVING keeps.
+fn group_row(
+    alloc: Global,
+    items: &[Item],
+    tested: &TestedLot,
+    query: &Query,
+) -> Result<Batch, EvalFault>
+    requires placed { IsPlaced query.now }
+    ensures { Gives result (calls.row_in query.now items.now tested.now) }
+{
+    if !tested.test.holds {
+        let rows = Rows::new(alloc)?;
+        return Ok(Batch {
+            rows,
+            marked: tested.test.marked,
+        });
+    }
+    let values = values_in(alloc, items, &tested.lot, query)?;
+    Ok(kept_row(alloc, &tested.lot, values, tested.test)?)
 }
 
-impl Step<TestedLot> for OfGroup<'_> {
-    ghost gives = { λ s x. calls.row_in s.query s.items.now x };
-
-    fn run(&self, alloc: Global, tested: &TestedLot) -> Result<Batch, EvalFault> {
-        if !tested.test.holds {
-            let rows = Rows::new(alloc)?;
-            return Ok(Batch {
-                rows,
-                marked: tested.test.marked,
-            });
-        }
-        let values = values_in(alloc, self.items, &tested.lot, &self.query)?;
-        Ok(kept_row(alloc, &tested.lot, values, tested.test)?)
+/// The rows of the groups that HAVING keeps.
+#[tactic(auto, using(crate::proofs::Gathering::gathering))]
+pub fn all_rows(
+    alloc: Global,
+    items: &[Item],
+    lots: &[TestedLot],
+    query: &Query,
+) -> Result<Batch, EvalFault>
+    requires placed { IsPlaced query.now }
+    ensures { Gives result (gathered (calls.row_in query.now items.now) lots.now) }
+{
+    let mut all = Batch::new(alloc)?;
+    for lot in lots {
+        let made = group_row(alloc, items, lot, query)?;
+        all.add(alloc, made)?;
     }
+    Ok(all)
 }

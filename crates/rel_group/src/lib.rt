@@ -18,6 +18,7 @@ mod laws;
 mod parts;
 mod placing;
 mod query;
+mod reading;
 #[cfg(test)]
 mod tests;
 #[cfg(test)]

@@ -1,0 +1,171 @@
+//! Items that are read at their places, for which no row of a group is bound.
+ghost use Rattle.std.specs.Prelude.{◌≡◌, IfOk, Ok, OnOk, length, pos};
+ghost use Rattle.std.specs.Option.{option_copied};
+ghost use Rattle.value_types.specs.declared.value.Value.TheVariants.{Int};
+ghost use Rattle.expr_lang.specs.declared.expr.Expr.{CountAll};
+ghost use Rattle.rel_group.specs.Calls as calls;
+ghost use Rattle.rel_group.specs.Calls.{IsPlaced, MayGive, bound_in, expr_in, key_bindings};
+ghost use Rattle.rel_group.specs.Calls.{operands_at, over_in, rows_by, with_operand};
+
+use crate::binding::row_at;
+use crate::parts::Lot;
+use crate::query::Query;
+use cell_errors::EvalFault;
+use dataset_types::{Marked, MarkedValues, Row};
+use expr_lang::Expr;
+use expr_meaning::{Bindings, eval};
+use expr_ops::{Aggregate, aggregated};
+use relations::Item;
+use std::alloc::Global;
+use value_types::{NoMemory, Value, Values};
+
+/// The values of a column in the rows of a group, and whether one of them is marked.
+#[derive(Drop)]
+pub struct Operands {
+    pub values: Values,
+    pub marked: bool,
+}
+
+/// The value at a place, counted from 0, of a row that has so many.
+fn value_in(width: usize, place: usize, row: &Row) -> Option<&Marked>
+    ensures { option_copied result ≡ calls.value_in width place row.now }
+{
+    let values = row.values.as_slice();
+    if values.len() == width {
+        values.get(place)
+    } else {
+        None
+    }
+}
+
+fn add_operand(alloc: Global, all: &mut Operands, operand: &Marked) -> Result<(), NoMemory>
+    ensures { OnOk result (all.new ≡ with_operand all.old operand.now) }
+{
+    all.values.push(alloc, operand.value.copy(alloc)?)?;
+    all.marked |= operand.marked;
+    Ok(())
+}
+
+/// The values at a place of the rows of a group, or none where a row hasn't so many values.
+#[tactic(auto, using(crate::proofs::ReadLots::operands))]
+fn read_operands(
+    alloc: Global,
+    width: usize,
+    place: usize,
+    rows: &[Row],
+    of_group: &[usize],
+) -> Result<Option<Operands>, NoMemory>
+    ensures { IfOk result
+        (λ found. found ≡ operands_at width place (rows_by rows.now of_group.now)) }
+{
+    let mut all = Operands {
+        values: Values::new(alloc)?,
+        marked: false,
+    };
+    for at in of_group {
+        if let Some(row) = row_at(rows, *at) {
+            match value_in(width, place, row) {
+                None => return Ok(None),
+                Some(operand) => add_operand(alloc, &mut all, operand)?,
+            }
+        }
+    }
+    Ok(Some(all))
+}
+
+/// An aggregate, where its operand is a column.
+fn over_column(
+    alloc: Global,
+    op: Aggregate,
+    of: &Expr,
+    lot: &Lot,
+    query: &Query,
+) -> Result<Option<Marked>, EvalFault>
+    requires placed { IsPlaced query.now }
+    ensures { MayGive result (over_in op query.now lot.now of.now) }
+{
+    let rows = query.rel.rows().as_slice();
+    let width = query.rel.columns().len();
+    match query.placed.place_of(of) {
+        None => Ok(None),
+        Some(place) => match read_operands(alloc, width, place, rows, lot.rows.as_slice())? {
+            None => Ok(None),
+            Some(all) => Ok(Some(Marked {
+                value: aggregated(alloc, op, all.values)?,
+                marked: query.uncertain | all.marked,
+            })),
+        },
+    }
+}
+
+#[tactic(auto, using(crate::proofs::ReadLots::counting))]
+fn row_count(rows: &[Row], of_group: &[usize]) -> Value
+    ensures { result ≡ Int (pos (length (rows_by rows.now of_group.now))) }
+{
+    let mut count: usize = 0;
+    for at in of_group {
+        if row_at(rows, *at).is_some() {
+            count += 1;
+        }
+    }
+    Value::Int(count as i64)
+}
+
+/// COUNT(*).
+#[tactic(auto, using(crate::proofs::ReadLots::counted))]
+fn count_all(lot: &Lot, query: &Query) -> Marked
+    ensures { expr_in query.now lot.now CountAll ≡ Ok result }
+{
+    let rows = query.rel.rows().as_slice();
+    Marked {
+        value: row_count(rows, lot.rows.as_slice()),
+        marked: query.uncertain,
+    }
+}
+
+/// The value of an item that is a column of the key, COUNT(*) or an aggregate of a column.
+#[tactic(auto, using(crate::proofs::ReadLots::reading))]
+fn read_value(
+    alloc: Global,
+    expr: &Expr,
+    row: &Bindings,
+    lot: &Lot,
+    query: &Query,
+) -> Result<Option<Marked>, EvalFault>
+    requires placed { IsPlaced query.now }
+    requires row { row.now ≡ key_bindings query.now lot.now }
+    ensures { MayGive result (expr_in query.now lot.now expr.now) }
+{
+    match expr {
+        Expr::Column { .. } => Ok(Some(eval(alloc, expr, row, query.picks, query.cell)?)),
+        Expr::CountAll => Ok(Some(count_all(lot, query))),
+        Expr::Count(of) => over_column(alloc, Aggregate::Count, of.get(), lot, query),
+        Expr::Sum(of) => over_column(alloc, Aggregate::Sum, of.get(), lot, query),
+        Expr::Min(of) => over_column(alloc, Aggregate::Min, of.get(), lot, query),
+        Expr::Max(of) => over_column(alloc, Aggregate::Max, of.get(), lot, query),
+        _ => Ok(None),
+    }
+}
+
+/// The values of the items of a group, or none where one of them needs the rows bound. The columns of the key are bound in `row`.
+#[tactic(auto, using(crate::proofs::Looping::collecting))]
+pub fn read_values(
+    alloc: Global,
+    items: &[Item],
+    row: &Bindings,
+    lot: &Lot,
+    query: &Query,
+) -> Result<Option<MarkedValues>, EvalFault>
+    requires placed { IsPlaced query.now }
+    requires row { row.now ≡ key_bindings query.now lot.now }
+    ensures { MayGive result (calls.values_in query.now items.now (bound_in query.now lot.now)) }
+{
+    let mut values = MarkedValues::new(alloc)?;
+    for item in items {
+        match read_value(alloc, &item.expr, row, lot, query)? {
+            None => return Ok(None),
+            Some(value) => values.push(alloc, value)?,
+        }
+    }
+    Ok(Some(values))
+}
