@@ -4,6 +4,7 @@ pub mod Stable
 pub mod Ranks
 pub mod Orders
 pub mod WhereRows
+pub mod ItemRows
 pub mod ProjectRules
 pub mod SameLaws
 pub mod FilterLaws

@@ -64,9 +64,13 @@ values_over row items picks cell = collect (item_value row picks cell) items
 abbrev pub with_values : Row → List Marked → Batch
 with_values r values = record { rows = record { id = r.id; sure = r.sure; values = values } ∷ []; marked = false }
 
+-- the values of the items of a row, or the first error
+abbrev pub values_at : List ScopeColumn → List Item → List Pick → ℕ → Row → Answer (List Marked)
+values_at columns items picks cell r = values_over (bindings columns r.values) items picks cell
+
 -- the row of the items' values, or the first error
 abbrev pub item_row : List ScopeColumn → List Item → List Pick → ℕ → Row → Answer Batch
-item_row columns items picks cell r = and_then (values_over (bindings columns r.values) items picks cell) (λ values. Ok (with_values r values))
+item_row columns items picks cell r = and_then (values_at columns items picks cell r) (λ values. Ok (with_values r values))
 
 -- one row for each, under these columns
 abbrev pub projected_to : List ScopeColumn → RelData → List Item → List Pick → ℕ → Answer RelData

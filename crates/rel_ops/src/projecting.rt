@@ -1,17 +1,18 @@
 //! The items.
-ghost use Rattle.std.specs.Prelude.{◌≡◌, Ok};
+ghost use Rattle.std.specs.Prelude.{◌≡◌, Ok, OnOk};
 ghost use Rattle.cell_errors.specs.Answers.{Gives};
 ghost use Rattle.dataset_types.specs.Tables.{Distinct};
-ghost use Rattle.relations.specs.Batches.{gathered};
+ghost use Rattle.relations.specs.Batches.{both, gathered};
+ghost use Rattle.relations.specs.Bound.{AreUnder};
 ghost use Rattle.rel_ops.specs.Project as spec;
-ghost use Rattle.rel_ops.specs.Project.{item_names, item_row, projected, projected_to};
+ghost use Rattle.rel_ops.specs.Project.{item_names, item_row, projected, projected_to, with_values};
 
 use cell_errors::EvalFault;
-use dataset_types::{Column, Marked, MarkedValues, Picks, Row, Rows};
+use dataset_types::{Column, Marked, MarkedValues, Picks, Row};
 use expr_meaning::{Bindings, ExprType, Scope, ScopeColumn, eval, type_of};
-use relations::{Batch, Item, Items, Rel, Step, bind, gather};
+use relations::{Batch, Item, Items, Rel, bind_again};
 use std::alloc::Global;
-use value_types::ColumnType;
+use value_types::{ColumnType, NoMemory};
 
 fn kind_of(of: ExprType) -> ColumnType
     ensures { result ≡ spec.kind_of of }
@@ -79,55 +80,60 @@ fn values_of(
     Ok(values)
 }
 
-/// The items of a row.
-#[derive(Clone, Copy)]
-struct OfRow<'a> {
-    columns: &'a [ScopeColumn],
-    items: &'a [Item],
-    picks: &'a Picks,
+/// The items over a row. Only the values in `bound` are of the row before it.
+#[tactic(auto, using(crate::proofs::WhereRows::binding))]
+fn values_at(
+    alloc: Global,
+    columns: &[ScopeColumn],
+    bound: &mut Bindings,
+    items: &[Item],
+    picks: &Picks,
     cell: u32,
+    row: &Row,
+) -> Result<MarkedValues, EvalFault>
+    requires { AreUnder columns.now bound.old }
+    ensures value { Gives result (spec.values_at columns.now items.now picks.now cell row.now) }
+    ensures bound { OnOk result (AreUnder columns.now bound.new) }
+{
+    bind_again(alloc, bound, columns, row.values.as_slice())?;
+    values_of(alloc, items, bound, picks, cell)
 }
 
-impl Step<Row> for OfRow<'_> {
-    ghost gives = { λ s r. item_row s.columns.now s.items.now s.picks.now s.cell r };
-
-    fn run(&self, alloc: Global, row: &Row) -> Result<Batch, EvalFault> {
-        let bound = bind(alloc, self.columns, row.values.as_slice())?;
-        let values = values_of(alloc, self.items, &bound, self.picks, self.cell)?;
-        let mut rows = Rows::new(alloc)?;
-        let id = row.id.copy(alloc)?;
-        rows.push(
-            alloc,
-            Row {
-                id,
-                sure: row.sure,
-                values,
-            },
-        )?;
-        Ok(Batch {
-            rows,
-            marked: false,
-        })
-    }
+/// The row with the values of the items, put after those before it.
+#[tactic(auto, using(crate::proofs::ItemRows::adding))]
+fn add_row(alloc: Global, all: &mut Batch, row: &Row, values: MarkedValues) -> Result<(), NoMemory>
+    ensures { OnOk result (all.new ≡ both all.old (with_values row.now values)) }
+{
+    let id = row.id.copy(alloc)?;
+    all.rows.push(
+        alloc,
+        Row {
+            id,
+            sure: row.sure,
+            values,
+        },
+    )?;
+    Ok(())
 }
 
+#[tactic(auto, using(crate::proofs::ItemRows::rows))]
 fn item_rows(
     alloc: Global,
-    columns: &Scope,
-    rows: &Rows,
-    items: &Items,
+    columns: &[ScopeColumn],
+    rows: &[Row],
+    items: &[Item],
     picks: &Picks,
     cell: u32,
 ) -> Result<Batch, EvalFault>
     ensures { Gives result (gathered (item_row columns.now items.now picks.now cell) rows.now) }
 {
-    let step = OfRow {
-        columns: columns.as_slice(),
-        items: items.as_slice(),
-        picks,
-        cell,
-    };
-    gather(alloc, &step, rows.as_slice())
+    let mut all = Batch::new(alloc)?;
+    let mut bound = Bindings::new(alloc)?;
+    for row in rows {
+        let values = values_at(alloc, columns, &mut bound, items, picks, cell, row)?;
+        add_row(alloc, &mut all, row, values)?;
+    }
+    Ok(all)
 }
 
 fn with_columns(
@@ -143,7 +149,9 @@ fn with_columns(
     ensures { Gives result (projected_to columns rel.now items.now picks.now cell) }
 {
     rel.law_of_rules();
-    let all = item_rows(alloc, rel.columns(), rel.rows(), items, picks, cell)?;
+    let of = rel.columns().as_slice();
+    let rows = rel.rows().as_slice();
+    let all = item_rows(alloc, of, rows, items.as_slice(), picks, cell)?;
     Rel::new(alloc, columns, all.rows, rel.is_open(), rel.is_loose())
 }
 
