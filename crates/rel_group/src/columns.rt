@@ -1,18 +1,17 @@
 //! The output columns of grouped items.
 ghost use Rattle.std.specs.Prelude.{◌≡◌, IfOk};
 ghost use Rattle.cell_errors.specs.Answers.{Gives};
-ghost use Rattle.rel_ops.specs.Project as project;
 ghost use Rattle.expr_meaning.specs.Calls.{type_setting};
 ghost use Rattle.rel_group.specs.Group as spec;
 ghost use Rattle.rel_group.specs.Groups as groups;
 
 use crate::keys::{items_at, once};
 use cell_errors::EvalFault;
-use dataset_types::Column;
-use expr_meaning::{ExprType, Scope, ScopeColumn, TypedSetting, type_in};
+use expr_meaning::{Scope, ScopeColumn, TypedSetting, type_in};
+use rel_ops::output_column;
 use relations::Item;
 use std::alloc::Global;
-use value_types::{ColumnType, NoMemory};
+use value_types::NoMemory;
 
 /// The columns of a key, each once.
 pub fn key_columns(alloc: Global, columns: &Scope, places: &[u32]) -> Result<Scope, NoMemory>
@@ -22,26 +21,11 @@ pub fn key_columns(alloc: Global, columns: &Scope, places: &[u32]) -> Result<Sco
     once(alloc, places, all.as_slice())
 }
 
-fn kind_of(of: ExprType) -> ColumnType
-    ensures { result ≡ project.kind_of of }
-{
-    match of {
-        ExprType::Null => ColumnType::Text,
-        ExprType::Of(kind) => kind,
-    }
-}
-
 fn group_column(_alloc: Global, types: &TypedSetting, item: &Item) -> Result<ScopeColumn, EvalFault>
     ensures { Gives result (spec.group_column (type_setting types.now) item.now) }
 {
     let of = type_in(&item.expr, types)?;
-    Ok(ScopeColumn {
-        qualifier: None,
-        column: Column {
-            name: item.name.copy(),
-            kind: kind_of(of),
-        },
-    })
+    Ok(output_column(&item.name, of))
 }
 
 /// The output columns, or the first error of types.

@@ -25,11 +25,12 @@ use Rattle.relations.specs.Shown.{ShownRel}
 use Rattle.rel_join.specs.declared.kind.Kind.{Kind}
 use Rattle.rel_join.specs.declared.kind.Kind.TheVariants.{Inner, Outer}
 
--- at most 16,000,000 pairs are looked at
+-- nothing, or that it is too much
 abbrev pub allowed : Bool → Answer (Unit {0})
 allowed true = Ok tt
 allowed false = Err TooLarge
 
+-- at most 16,000,000 pairs are looked at
 abbrev pub few_pairs : ℕ → ℕ → Answer (Unit {0})
 few_pairs m n = allowed (nat_le (m * n) 16000000)
 
@@ -86,33 +87,41 @@ joined kind a b on picks cell = and_then (few_pairs (length a.rows) (length b.ro
 
 -- ---- without marks
 
+-- two rows as one
 abbrev pub plain_paired : PlainRow → PlainRow → PlainRow
 plain_paired l r = record { id = Pair l.id r.id; values = l.values ++ r.values }
 
+-- the pair where ON is TRUE
 abbrev pub plain_pair : List ScopeColumn → List ScopeColumn → Expr → List Pick → ℕ → PlainRow → PlainRow → Answer (List PlainRow)
 plain_pair left right on picks cell l r =
     plain_kept (plain_paired l r) (plain_over_row (plain_bindings left l.values ++ plain_bindings right r.values) picks cell on)
 
+-- a left row without a pair
 abbrev pub plain_alone : ℕ → PlainRow → PlainRow
 plain_alone width l = record { id = Alone l.id; values = l.values ++ replicate width Null }
 
+-- LEFT JOIN keeps a left row that has no pair
 abbrev pub plain_by_kind : Kind → ℕ → PlainRow → List PlainRow → List PlainRow
 plain_by_kind Inner width l rows = rows
 plain_by_kind Outer width l rows = or_one rows (plain_alone width l)
 
+-- what a join makes of a left row
 abbrev pub plain_left : Kind → List ScopeColumn → PlainRel → Expr → List Pick → ℕ → PlainRow → Answer (List PlainRow)
 plain_left kind left b on picks cell l =
     and_then (listed (plain_pair left b.columns on picks cell l) b.rows) (λ rows. Ok (plain_by_kind kind (length b.columns) l rows))
 
+-- what it makes of all left rows, where the whole is within the limits
 abbrev pub plain_pairs : Kind → PlainRel → PlainRel → Expr → List Pick → ℕ → Answer PlainRel
 plain_pairs kind a b on picks cell =
     and_then (listed (plain_left kind a.columns b on picks cell) a.rows) (λ rows. plain_whole (record { columns = a.columns ++ b.columns; rows = rows }))
 
+-- the number of pairs is looked at first
 abbrev pub plain_joined : Kind → PlainRel → PlainRel → Expr → List Pick → ℕ → Answer PlainRel
 plain_joined kind a b on picks cell = and_then (few_pairs (length a.rows) (length b.rows)) (λ u. plain_pairs kind a b on picks cell)
 
 -- ---- over what is shown
 
+-- two rows as one
 abbrev pub shown_paired : ShownRow → ShownRow → ShownRow
 shown_paired l r = record { id = Pair l.id r.id; values = l.values ++ r.values }
 
@@ -129,6 +138,7 @@ module _ (left right : List ScopeColumn) (on : Expr) where
   abbrev pub unknown_on : List ShownRow → ShownRow → Bool
   unknown_on rs l = list_any (λ r. is_none (known_on l r)) rs
 
+-- a left row without a pair, whose NULLs are known
 abbrev pub shown_alone : ℕ → ShownRow → ShownRow
 shown_alone width l = record { id = Alone l.id; values = l.values ++ replicate width (Some Null) }
 
@@ -137,11 +147,13 @@ abbrev pub or_alone : List ShownRow → Bool → ShownRow → List ShownRow
 or_alone [] certain x = kept_if certain x
 or_alone (y ∷ ys) certain x = y ∷ ys
 
+-- what a join makes of a left row: its known pairs, and at LEFT JOIN itself where it is known to have none
 abbrev pub shown_left : Kind → List ScopeColumn → ShownRel → Expr → ShownRow → List ShownRow
 shown_left Inner left b on l = shown_pairs left b.columns on b.rows l
 shown_left Outer left b on l =
     or_alone (shown_pairs left b.columns on b.rows l) (not b.is_open && not (unknown_on left b.columns on b.rows l)) (shown_alone (length b.columns) l)
 
+-- the same of all left rows: open where a side is or an ON is unknown, loose where a side is
 abbrev pub shown_joined : Kind → ShownRel → ShownRel → Expr → ShownRel
 shown_joined kind a b on = record {
   columns = a.columns ++ b.columns;

@@ -1,17 +1,17 @@
 //! WHERE.
-ghost use Rattle.std.specs.Prelude.{◌≡◌, IfOk, OnOk, map};
+ghost use Rattle.std.specs.Prelude.{◌≡◌, OnOk};
 ghost use Rattle.cell_errors.specs.Answers.{Gives};
 ghost use Rattle.relations.specs.Batches.{both, gathered};
 ghost use Rattle.relations.specs.Bound.{AreUnder};
 ghost use Rattle.relations.specs.Conditions.{kept};
-ghost use Rattle.relations.specs.Rels.{qualified, table_rel};
+ghost use Rattle.relations.specs.Rels.{table_rel};
 ghost use Rattle.rel_ops.specs.Filter.{row_test, where_row, filtered};
 
 use cell_errors::EvalFault;
-use dataset_types::{Column, Picks, Row, Rows, Table};
+use dataset_types::{Picks, Row, Rows, Table};
 use expr_lang::Expr;
-use expr_meaning::{Bindings, Scope, ScopeColumn};
-use relations::{Batch, Rel, RelParts, Test, bind_again, test_row};
+use expr_meaning::{Bindings, ScopeColumn};
+use relations::{Batch, Rel, RelParts, Test, bind_again, qualified_columns, test_row};
 use std::alloc::Global;
 use value_types::{Name, NoMemory};
 
@@ -76,37 +76,6 @@ pub fn filter(
     } = rel.into_parts();
     let kept = kept_rows(alloc, columns.as_slice(), rows, condition, picks, cell)?;
     Rel::new(alloc, columns, kept.rows, is_open | kept.marked, is_loose)
-}
-
-fn qualified(
-    alloc: Global,
-    column: &Column,
-    qualifier: &Option<Name>,
-) -> Result<ScopeColumn, NoMemory>
-    ensures { IfOk result (λ c. c ≡ qualified qualifier.now column.now) }
-{
-    Ok(ScopeColumn {
-        qualifier: match qualifier {
-            None => None,
-            Some(name) => Some(name.copy()),
-        },
-        column: column.copy(alloc)?,
-    })
-}
-
-fn qualified_columns(
-    alloc: Global,
-    columns: &[Column],
-    qualifier: &Option<Name>,
-) -> Result<Scope, NoMemory>
-    ensures { IfOk result (λ c. c ≡ map (qualified qualifier.now) columns.now) }
-{
-    let mut all = Scope::new(alloc)?;
-    for column in columns {
-        let one = qualified(alloc, column, qualifier)?;
-        all.push(alloc, one)?;
-    }
-    Ok(all)
 }
 
 #[tactic(auto, using(crate::proofs::WhereRows::left_out))]

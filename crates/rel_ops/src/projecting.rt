@@ -12,7 +12,7 @@ use dataset_types::{Column, Marked, MarkedValues, Picks, Row};
 use expr_meaning::{Bindings, ExprType, Scope, ScopeColumn, eval, type_of};
 use relations::{Batch, Item, Items, Rel, bind_again};
 use std::alloc::Global;
-use value_types::{ColumnType, NoMemory};
+use value_types::{ColumnType, Name, NoMemory};
 
 fn kind_of(of: ExprType) -> ColumnType
     ensures { result ≡ spec.kind_of of }
@@ -23,17 +23,24 @@ fn kind_of(of: ExprType) -> ColumnType
     }
 }
 
+/// The output column of an expression of this type, without a qualifier; one that is NULL alone is Text.
+pub fn output_column(name: &Name, of: ExprType) -> ScopeColumn
+    ensures { result ≡ spec.output_column name.now of }
+{
+    ScopeColumn {
+        qualifier: None,
+        column: Column {
+            name: name.copy(),
+            kind: kind_of(of),
+        },
+    }
+}
+
 fn item_column(alloc: Global, columns: &Scope, item: &Item) -> Result<ScopeColumn, EvalFault>
     ensures { Gives result (spec.item_column columns.now item.now) }
 {
     let of = type_of(alloc, &item.expr, columns)?;
-    Ok(ScopeColumn {
-        qualifier: None,
-        column: Column {
-            name: item.name.copy(),
-            kind: kind_of(of),
-        },
-    })
+    Ok(output_column(&item.name, of))
 }
 
 /// The output columns, or the first error of types.

@@ -8,7 +8,8 @@ use expr_meaning::{Scope, ScopeColumn};
 use std::alloc::Global;
 use value_types::{Name, NoMemory};
 
-fn qualified_columns(
+/// The columns of a dataset under a qualifier.
+pub fn qualified_columns(
     alloc: Global,
     columns: &[Column],
     qualifier: &Option<Name>,

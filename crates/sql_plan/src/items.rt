@@ -7,13 +7,13 @@ ghost use Rattle.expr_meaning.specs.Calls.{type_setting};
 ghost use Rattle.sql_plan.specs.Items as spec;
 
 use cell_errors::EvalFault;
-use dataset_types::Column;
 use expr_lang::Expr;
-use expr_meaning::{ExprType, Scope, ScopeColumn, TypedSetting, type_in};
+use expr_meaning::{Scope, ScopeColumn, TypedSetting, type_in};
+use rel_ops::output_column;
 use relations::{Item, Items};
 use sql_parse::{CoreItems, ItemText};
 use std::alloc::Global;
-use value_types::{ColumnType, Name, Names, NoMemory, read_name};
+use value_types::{Name, Names, NoMemory, read_name};
 
 fn own_name(expr: &Expr) -> Option<&Name>
     ensures { option_copied result ≡ spec.own_name expr.now }
@@ -110,26 +110,11 @@ pub(crate) fn item_names(alloc: Global, items: &[Item]) -> Result<Names, NoMemor
     Ok(all)
 }
 
-fn kind_of(of: ExprType) -> ColumnType
-    ensures { result ≡ project.kind_of of }
-{
-    match of {
-        ExprType::Null => ColumnType::Text,
-        ExprType::Of(kind) => kind,
-    }
-}
-
 fn output_of(setting: &TypedSetting, item: &Item) -> Result<ScopeColumn, EvalFault>
     ensures { Gives result (spec.output_of (type_setting setting.now) item.now) }
 {
     let of = type_in(&item.expr, setting)?;
-    Ok(ScopeColumn {
-        qualifier: None,
-        column: Column {
-            name: item.name.copy(),
-            kind: kind_of(of),
-        },
-    })
+    Ok(output_column(&item.name, of))
 }
 
 /// The columns of the items.
