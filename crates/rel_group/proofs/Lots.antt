@@ -14,7 +14,7 @@ use Rattle.relations.specs.Bound.{bindings}
 use Rattle.relations.specs.Batches.{both, gathered}
 use Rattle.rel_group.specs.declared.parts.Lot.{Lot}
 use Rattle.rel_group.specs.declared.parts.TestedLot.{TestedLot}
-use Rattle.rel_group.specs.declared.query.Query.{Query}
+use Rattle.rel_group.specs.declared.job.Job.{Job}
 use Rattle.rel_group.specs.Groups.{bound_rows, keyed_groups, groups, setting_under}
 use Rattle.rel_group.specs.Group.{tested, group_row, group_rows, key_row}
 use Rattle.rel_group.specs.Calls.{lots_of, AreLots, rows_by, bound_lot, StandFor, key_lot, IsOf, bound_in, bound_test, setting_in, having_in, tested_in, row_in, group_rows_in, rows_in}
@@ -97,36 +97,36 @@ distinct_rows rows = twice (lots_of None rows) ∙ ap (map key_row) (lots_stand 
 
 -- ---- HAVING and the items
 
-module _ (q : Query) (having : Option Expr) (items : List Item) where
+module _ (job : Job) (having : Option Expr) (items : List Item) where
   tests_bound : (gs : List Lot) →
-      collect (tested (setting_in q) having q.picks.now q.cell) (map (bound_in q) gs) ≡ and_then (collect (tested_in q having) gs) (λ ts. Ok (map (bound_test q) ts))
+      collect (tested (setting_in job) having job.picks.now job.cell) (map (bound_in job) gs) ≡ and_then (collect (tested_in job having) gs) (λ ts. Ok (map (bound_test job) ts))
   tests_bound [] = refl
-  tests_bound (g ∷ gs) = on (having_in q having (bound_in q g)) (collect (tested_in q having) gs) (tests_bound gs)
+  tests_bound (g ∷ gs) = on (having_in job having (bound_in job g)) (collect (tested_in job having) gs) (tests_bound gs)
     where
       on : (a : Answer Test) (r : Answer (List TestedLot)) →
-          collect (tested (setting_in q) having q.picks.now q.cell) (map (bound_in q) gs) ≡ and_then r (λ ts. Ok (map (bound_test q) ts)) →
-          and_then (and_then a (λ t. Ok (record { group = bound_in q g; test = t }))) (λ y. and_then (collect (tested (setting_in q) having q.picks.now q.cell) (map (bound_in q) gs)) (λ ys. Ok (y ∷ ys)))
-          ≡ and_then (and_then (and_then a (λ t. Ok (record { lot = g; test = t }))) (λ y. and_then r (λ ys. Ok (y ∷ ys)))) (λ ts. Ok (map (bound_test q) ts))
+          collect (tested (setting_in job) having job.picks.now job.cell) (map (bound_in job) gs) ≡ and_then r (λ ts. Ok (map (bound_test job) ts)) →
+          and_then (and_then a (λ t. Ok (record { group = bound_in job g; test = t }))) (λ y. and_then (collect (tested (setting_in job) having job.picks.now job.cell) (map (bound_in job) gs)) (λ ys. Ok (y ∷ ys)))
+          ≡ and_then (and_then (and_then a (λ t. Ok (record { lot = g; test = t }))) (λ y. and_then r (λ ys. Ok (y ∷ ys)))) (λ ts. Ok (map (bound_test job) ts))
       on (Err f) r e = refl
-      on (Ok t) (Ok ts) e = ap (λ z. and_then z (λ ys. Ok (record { group = bound_in q g; test = t } ∷ ys))) e
-      on (Ok t) (Err f) e = ap (λ z. and_then z (λ ys. Ok (record { group = bound_in q g; test = t } ∷ ys))) e
+      on (Ok t) (Ok ts) e = ap (λ z. and_then z (λ ys. Ok (record { group = bound_in job g; test = t } ∷ ys))) e
+      on (Ok t) (Err f) e = ap (λ z. and_then z (λ ys. Ok (record { group = bound_in job g; test = t } ∷ ys))) e
 
-  rows_tested : (ts : List TestedLot) → gathered (group_row (setting_in q) items q.picks.now q.cell) (map (bound_test q) ts) ≡ gathered (row_in q items) ts
+  rows_tested : (ts : List TestedLot) → gathered (group_row (setting_in job) items job.picks.now job.cell) (map (bound_test job) ts) ≡ gathered (row_in job items) ts
   rows_tested [] = refl
-  rows_tested (t ∷ ts) = ap (λ z. and_then (row_in q items t) (λ b. and_then z (λ c. Ok (both b c)))) (rows_tested ts)
+  rows_tested (t ∷ ts) = ap (λ z. and_then (row_in job items t) (λ b. and_then z (λ c. Ok (both b c)))) (rows_tested ts)
 
-  rows_bound : (gs : List Lot) → group_rows (setting_in q) having items q.picks.now q.cell (map (bound_in q) gs) ≡ group_rows_in q having items gs
+  rows_bound : (gs : List Lot) → group_rows (setting_in job) having items job.picks.now job.cell (map (bound_in job) gs) ≡ group_rows_in job having items gs
   rows_bound gs =
-      ap (λ z. and_then z (λ ts. gathered (group_row (setting_in q) items q.picks.now q.cell) ts)) (tests_bound gs) ∙ on (collect (tested_in q having) gs)
+      ap (λ z. and_then z (λ ts. gathered (group_row (setting_in job) items job.picks.now job.cell) ts)) (tests_bound gs) ∙ on (collect (tested_in job having) gs)
     where
       on : (r : Answer (List TestedLot)) →
-          and_then (and_then r (λ ts. Ok (map (bound_test q) ts))) (λ ts. gathered (group_row (setting_in q) items q.picks.now q.cell) ts) ≡ and_then r (λ ts. gathered (row_in q items) ts)
+          and_then (and_then r (λ ts. Ok (map (bound_test job) ts))) (λ ts. gathered (group_row (setting_in job) items job.picks.now job.cell) ts) ≡ and_then r (λ ts. gathered (row_in job items) ts)
       on (Ok ts) = rows_tested ts
       on (Err f) = refl
 
-  pub rows_are : (gs : List Lot) → IsOf q → StandFor q.places.now q.rel.now.rows gs → group_rows_in q having items gs ≡ rows_in q having items
+  pub rows_are : (gs : List Lot) → IsOf job → StandFor job.places.now job.rel.now.rows gs → group_rows_in job having items gs ≡ rows_in job having items
   rows_are gs is stand =
       sym (rows_bound gs)
-      ∙ (ap (group_rows (setting_in q) having items q.picks.now q.cell) (stand q.rel.now.columns)
+      ∙ (ap (group_rows (setting_in job) having items job.picks.now job.cell) (stand job.rel.now.columns)
       ∙ (let columns = is.0 in let uncertain = is.1 in
-      λ i. group_rows (setting_under (columns i) q.places.now (uncertain i)) having items q.picks.now q.cell (groups q.rel.now.columns q.places.now q.rel.now.rows)))
+      λ i. group_rows (setting_under (columns i) job.places.now (uncertain i)) having items job.picks.now job.cell (groups job.rel.now.columns job.places.now job.rel.now.rows)))

@@ -27,7 +27,7 @@ use Rattle.relations.specs.Bound.{bindings}
 use Rattle.relations.specs.Places.{ReadsPlace}
 use Rattle.rel_ops.specs.Project.{marked_value}
 use Rattle.rel_group.specs.declared.parts.Lot.{Lot}
-use Rattle.rel_group.specs.declared.query.Query.{Query}
+use Rattle.rel_group.specs.declared.job.Job.{Job}
 use Rattle.rel_group.specs.declared.reading.Operands.{Operands}
 use Rattle.rel_group.specs.Groups.{bound_rows}
 use Rattle.rel_group.specs.Calls.{bound_in, expr_in, operand_then, operands_at, operands_from, over_in, rows_by, setting_in, value_in, with_operand}
@@ -124,26 +124,26 @@ module _ (columns : List ScopeColumn) (place : ℕ) (e : Expr) (reads : ReadsPla
           ∙ more (with_operand o m) z
 
 -- an aggregate of a column, from the values at its place
-pub over_reads : (q : Query) (g : Lot) (op : Aggregate) (e : Expr) (place : ℕ) (all : Operands) → ReadsPlace q.rel.now.columns place e →
-    operands_at (length q.rel.now.columns) place (rows_by q.rel.now.rows g.rows) ≡ Some all →
-    over_in op q g e ≡ marked_value (record { marked = q.uncertain || all.marked; answer = aggregate_of op all.values })
+pub over_reads : (job : Job) (g : Lot) (op : Aggregate) (e : Expr) (place : ℕ) (all : Operands) → ReadsPlace job.rel.now.columns place e →
+    operands_at (length job.rel.now.columns) place (rows_by job.rel.now.rows g.rows) ≡ Some all →
+    over_in op job g e ≡ marked_value (record { marked = job.uncertain || all.marked; answer = aggregate_of op all.values })
 unfolding over_at
-over_reads q g op e place all reads h =
-    ap (λ s. marked_value (after q.uncertain s))
-    (read_from q.rel.now.columns place e reads q.picks.now q.cell (rows_by q.rel.now.rows g.rows) (record { values = []; marked = false }) all (aggregate_of op) h)
+over_reads job g op e place all reads h =
+    ap (λ s. marked_value (after job.uncertain s))
+    (read_from job.rel.now.columns place e reads job.picks.now job.cell (rows_by job.rel.now.rows g.rows) (record { values = []; marked = false }) all (aggregate_of op) h)
 
 -- where the aggregate of these values fails, that of the column does
-pub over_fails : (q : Query) (op : Aggregate) (all : Operands) (f : EvalFault) (a : Answer Marked) →
-    a ≡ marked_value (record { marked = q.uncertain || all.marked; answer = aggregate_of op all.values }) → Fails f (aggregate_of op all.values) → Fails f a
-over_fails q op all (fault.Error e) a is h = is ∙ ap (λ z. marked_value (record { marked = q.uncertain || all.marked; answer = z })) h
-over_fails q op all fault.NoMemory a is h = tt
+pub over_fails : (job : Job) (op : Aggregate) (all : Operands) (f : EvalFault) (a : Answer Marked) →
+    a ≡ marked_value (record { marked = job.uncertain || all.marked; answer = aggregate_of op all.values }) → Fails f (aggregate_of op all.values) → Fails f a
+over_fails job op all (fault.Error e) a is h = is ∙ ap (λ z. marked_value (record { marked = job.uncertain || all.marked; answer = z })) h
+over_fails job op all fault.NoMemory a is h = tt
 
 -- COUNT(*) counts the rows of the lot
-pub count_reads : (q : Query) (g : Lot) →
-    expr_in q g CountAll ≡ Ok (record { value = Int (pos (length (rows_by q.rel.now.rows g.rows))); marked = q.uncertain })
-count_reads q g =
-    ap marked_value (M-CountAll (setting_in q (bound_in q g)) q.picks.now q.cell)
-    ∙ ap (λ n. Ok (record { value = Int (pos n); marked = q.uncertain })) (length-map (rows_by q.rel.now.rows g.rows) (λ r. bindings q.rel.now.columns r.values))
+pub count_reads : (job : Job) (g : Lot) →
+    expr_in job g CountAll ≡ Ok (record { value = Int (pos (length (rows_by job.rel.now.rows g.rows))); marked = job.uncertain })
+count_reads job g =
+    ap marked_value (M-CountAll (setting_in job (bound_in job g)) job.picks.now job.cell)
+    ∙ ap (λ n. Ok (record { value = Int (pos n); marked = job.uncertain })) (length-map (rows_by job.rel.now.rows g.rows) (λ r. bindings job.rel.now.columns r.values))
 
 -- what the proof of COUNT(*) uses
 pub ruleset counted = (count_reads)

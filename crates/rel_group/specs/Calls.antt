@@ -27,7 +27,7 @@ use Rattle.relations.specs.Batches.{gathered}
 use Rattle.rel_group.specs.declared.parts.Lot.{Lot}
 use Rattle.rel_group.specs.declared.parts.TestedLot.{TestedLot}
 use Rattle.rel_group.specs.declared.keyed.Keyed.{Keyed}
-use Rattle.rel_group.specs.declared.query.Query.{Query}
+use Rattle.rel_group.specs.declared.job.Job.{Job}
 use Rattle.rel_group.specs.declared.reading.Operands.{Operands}
 use Rattle.rel_ops.specs.Project.{marked_value}
 use Rattle.rel_group.specs.Keys.{key_cmp, ascending, rows_at}
@@ -142,9 +142,9 @@ lot_row g values = record { id = Key g.key; sure = g.sure; values = values }
 abbrev pub key_lot : Lot → Row
 key_lot g = lot_row g (map certain g.key)
 
--- the setting of a group of a query
-abbrev pub setting_in : Query → Group → MarkedSetting
-setting_in q = setting_under q.columns.now q.places.now q.uncertain
+-- the setting of a group of a job
+abbrev pub setting_in : Job → Group → MarkedSetting
+setting_in job = setting_under job.columns.now job.places.now job.uncertain
 
 -- whether there is a value and it is marked
 abbrev pub is_marked : Option Marked → Bool
@@ -155,37 +155,37 @@ is_marked (Some m) = m.marked
 abbrev pub key_lt : Keyed → Keyed → Bool
 key_lt a b = is_lt (key_cmp a.key b.key)
 
--- a query whose columns with places are those of its relation
-abbrev pub IsPlaced : Query → Type 0
-IsPlaced q = q.placed.now ≡ q.rel.now.columns
+-- a job whose places are those of the columns of its relation
+abbrev pub HasPlaces : Job → Type 0
+HasPlaces job = job.column_places.now ≡ job.rel.now.columns
 
--- a query whose columns and doubts are those of its relation
-abbrev pub IsOf : Query → Type 0
-IsOf q = (q.columns.now ≡ key_columns q.rel.now.columns q.places.now) × (q.uncertain ≡ is_uncertain (Some q.places.now) q.rel.now) × IsPlaced q
+-- a job whose columns and doubts are those of its relation
+abbrev pub IsOf : Job → Type 0
+IsOf job = (job.columns.now ≡ key_columns job.rel.now.columns job.places.now) × (job.uncertain ≡ is_uncertain (Some job.places.now) job.rel.now) × HasPlaces job
 
--- the group that a lot of a query stands for
-abbrev pub bound_in : Query → Lot → Group
-bound_in q = bound_lot q.rel.now.columns q.rel.now.rows
+-- the group that a lot of a job stands for
+abbrev pub bound_in : Job → Lot → Group
+bound_in job = bound_lot job.rel.now.columns job.rel.now.rows
 
 -- that group with its test
-abbrev pub bound_test : Query → TestedLot → Tested
-bound_test q x = record { group = bound_in q x.lot; test = x.test }
+abbrev pub bound_test : Job → TestedLot → Tested
+bound_test job x = record { group = bound_in job x.lot; test = x.test }
 
 -- whether a condition is TRUE of a group
-abbrev pub condition_in : Query → Expr → Group → Answer Test
-condition_in q condition g = condition_test condition q.picks.now q.cell (setting_in q g)
+abbrev pub condition_in : Job → Expr → Group → Answer Test
+condition_in job condition g = condition_test condition job.picks.now job.cell (setting_in job g)
 
 -- whether HAVING is TRUE of a group
-abbrev pub having_in : Query → Option Expr → Group → Answer Test
-having_in q having g = having_test having q.picks.now q.cell (setting_in q g)
+abbrev pub having_in : Job → Option Expr → Group → Answer Test
+having_in job having g = having_test having job.picks.now job.cell (setting_in job g)
 
 -- a lot with the test of its group
-abbrev pub tested_in : Query → Option Expr → Lot → Answer TestedLot
-tested_in q having g = and_then (having_in q having (bound_in q g)) (λ t. Ok (record { lot = g; test = t }))
+abbrev pub tested_in : Job → Option Expr → Lot → Answer TestedLot
+tested_in job having g = and_then (having_in job having (bound_in job g)) (λ t. Ok (record { lot = g; test = t }))
 
 -- the columns of the key with the values of a lot's key
-abbrev pub key_bindings : Query → Lot → List Binding
-key_bindings q g = (setting_in q (bound_in q g)).row
+abbrev pub key_bindings : Job → Lot → List Binding
+key_bindings job g = (setting_in job (bound_in job g)).row
 
 -- the value of an item
 abbrev pub item_in : Setting → Item → Answer Marked
@@ -196,28 +196,28 @@ abbrev pub items_in : Setting → List Item → Answer (List Marked)
 items_in s items = group_values items s.picks.now s.cell (setting_of s)
 
 -- the values of all items of a group
-abbrev pub values_in : Query → List Item → Group → Answer (List Marked)
-values_in q items g = group_values items q.picks.now q.cell (setting_in q g)
+abbrev pub values_in : Job → List Item → Group → Answer (List Marked)
+values_in job items g = group_values items job.picks.now job.cell (setting_in job g)
 
 -- the row of the items of a lot whose group HAVING keeps
-abbrev pub row_in : Query → List Item → TestedLot → Answer Batch
-row_in q items x = group_row (setting_in q) items q.picks.now q.cell (bound_test q x)
+abbrev pub row_in : Job → List Item → TestedLot → Answer Batch
+row_in job items x = group_row (setting_in job) items job.picks.now job.cell (bound_test job x)
 
 -- the rows of these lots: HAVING of all, and then the items of those that it keeps
-abbrev pub group_rows_in : Query → Option Expr → List Item → List Lot → Answer Batch
-group_rows_in q having items gs = and_then (collect (tested_in q having) gs) (λ ts. gathered (row_in q items) ts)
+abbrev pub group_rows_in : Job → Option Expr → List Item → List Lot → Answer Batch
+group_rows_in job having items gs = and_then (collect (tested_in job having) gs) (λ ts. gathered (row_in job items) ts)
 
--- the rows of the groups of a query
-abbrev pub rows_in : Query → Option Expr → List Item → Answer Batch
-rows_in q having items = rows_of q.rel.now q.places.now having items q.picks.now q.cell
+-- the rows of the groups of a job
+abbrev pub rows_in : Job → Option Expr → List Item → Answer Batch
+rows_in job having items = rows_of job.rel.now job.places.now having items job.picks.now job.cell
 
--- the types of a query's items
-abbrev pub columns_in : Query → List Item → Answer (List ScopeColumn)
-columns_in q items = group_columns (group_types q.rel.now.columns q.places.now) items
+-- the types of a job's items
+abbrev pub columns_in : Job → List Item → Answer (List ScopeColumn)
+columns_in job items = group_columns (group_types job.rel.now.columns job.places.now) items
 
--- the rows of the groups of a query under the output columns
-abbrev pub grouped_in : Query → List ScopeColumn → Option Expr → List Item → Answer RelData
-grouped_in q columns having items = grouped_to columns q.rel.now q.places.now having items q.picks.now q.cell
+-- the rows of the groups of a job under the output columns
+abbrev pub grouped_in : Job → List ScopeColumn → Option Expr → List Item → Answer RelData
+grouped_in job columns having items = grouped_to columns job.rel.now job.places.now having items job.picks.now job.cell
 
 -- ---- items that are read at places
 
@@ -228,16 +228,16 @@ MayGive (Ok (Some value)) given = given ≡ Ok value
 MayGive (Err f) given = Fails f given
 
 -- the value of an expression over the group of a lot
-abbrev pub expr_in : Query → Lot → Expr → Answer Marked
-expr_in q g e = marked_value (marked_at (setting_in q (bound_in q g)) q.picks.now q.cell e)
+abbrev pub expr_in : Job → Lot → Expr → Answer Marked
+expr_in job g e = marked_value (marked_at (setting_in job (bound_in job g)) job.picks.now job.cell e)
 
 -- the value of an item over that group
-abbrev pub item_at : Query → Lot → Item → Answer Marked
-item_at q g i = expr_in q g i.expr
+abbrev pub item_at : Job → Lot → Item → Answer Marked
+item_at job g i = expr_in job g i.expr
 
 -- an aggregate of an expression over that group
-abbrev pub over_in : Aggregate → Query → Lot → Expr → Answer Marked
-over_in op q g e = marked_value (over_at op (setting_in q (bound_in q g)) q.picks.now q.cell e)
+abbrev pub over_in : Aggregate → Job → Lot → Expr → Answer Marked
+over_in op job g e = marked_value (over_at op (setting_in job (bound_in job g)) job.picks.now job.cell e)
 
 -- the value at a place, which counts from 0, of a row that has so many
 abbrev pub value_in : ℕ → ℕ → Row → Option Marked

@@ -5,8 +5,8 @@ ghost use Rattle.relations.specs.Bound.{bindings};
 ghost use Rattle.rel_group.specs.Groups.{bound_rows};
 ghost use Rattle.rel_group.specs.Calls.{bound_in, rows_by};
 
+use crate::job::Job;
 use crate::parts::Lot;
-use crate::query::Query;
 use dataset_types::Row;
 use expr_meaning::{Bindings, ScopeColumn};
 use relations::bind_more;
@@ -48,10 +48,10 @@ fn bound_at(
 }
 
 /// The rows of a lot under all columns.
-pub fn bound_lot(alloc: Global, query: &Query, lot: &Lot) -> Result<ListOf<Bindings>, NoMemory>
-    ensures { IfOk result (λ all. all ≡ (bound_in query.now lot.now).rows) }
+pub fn bound_lot(alloc: Global, job: &Job, lot: &Lot) -> Result<ListOf<Bindings>, NoMemory>
+    ensures { IfOk result (λ all. all ≡ (bound_in job.now lot.now).rows) }
 {
-    let columns = query.rel.columns().as_slice();
-    let rows = query.rel.rows().as_slice();
+    let columns = job.rel.columns().as_slice();
+    let rows = job.rel.rows().as_slice();
     bound_at(alloc, columns, rows, lot.rows.as_slice())
 }

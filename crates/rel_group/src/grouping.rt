@@ -7,14 +7,14 @@ ghost use Rattle.rel_ops.specs.Project.{item_names};
 ghost use Rattle.rel_group.specs.Group as spec;
 ghost use Rattle.rel_group.specs.Groups as groups;
 ghost use Rattle.rel_group.specs.Keys.{are_places};
-ghost use Rattle.rel_group.specs.Calls.{IsOf, IsPlaced, columns_in, group_rows_in, grouped_in, rows_in};
+ghost use Rattle.rel_group.specs.Calls.{IsOf, HasPlaces, columns_in, group_rows_in, grouped_in, rows_in};
 
 use crate::columns::{group_columns, key_columns};
 use crate::cutting::lots;
 use crate::having::all_tested;
 use crate::items::all_rows;
+use crate::job::Job;
 use crate::parts::Lots;
-use crate::query::Query;
 use crate::uncertain::is_uncertain;
 use cell_errors::EvalFault;
 use dataset_types::Picks;
@@ -27,28 +27,28 @@ fn group_rows(
     alloc: Global,
     having: Option<&Expr>,
     items: &[Item],
-    query: Query,
+    job: Job,
     lots: Lots,
 ) -> Result<Batch, EvalFault>
-    requires placed { IsPlaced query }
+    requires places { HasPlaces job }
     ensures { Gives result
-        (group_rows_in query.entry (option_copied having.entry) items.now lots) }
+        (group_rows_in job.entry (option_copied having.entry) items.now lots) }
 {
-    let tested = all_tested(alloc, having, lots, &query)?;
-    all_rows(alloc, items, tested.as_slice(), &query)
+    let tested = all_tested(alloc, having, lots, &job)?;
+    all_rows(alloc, items, tested.as_slice(), &job)
 }
 
 fn rows_of(
     alloc: Global,
     having: Option<&Expr>,
     items: &[Item],
-    query: Query,
+    job: Job,
 ) -> Result<Batch, EvalFault>
-    requires query { IsOf query }
-    ensures { Gives result (rows_in query.entry (option_copied having.entry) items.now) }
+    requires job { IsOf job }
+    ensures { Gives result (rows_in job.entry (option_copied having.entry) items.now) }
 {
-    let lots = lots(alloc, query.places, query.rel.rows().as_slice())?;
-    group_rows(alloc, having, items, query, lots)
+    let lots = lots(alloc, job.places, job.rel.rows().as_slice())?;
+    group_rows(alloc, having, items, job, lots)
 }
 
 fn may_lack_groups(places: &[u32], rel: &Rel) -> bool
@@ -93,17 +93,17 @@ pub fn group(
         group: Some(rel.columns()),
     };
     let columns = group_columns(alloc, &types, items.as_slice())?;
-    let placed = ColumnPlaces::new(alloc, rel.columns().as_slice())?;
-    let query = Query {
+    let column_places = ColumnPlaces::new(alloc, rel.columns().as_slice())?;
+    let job = Job {
         rel,
-        placed: &placed,
+        column_places: &column_places,
         columns: &of_key,
         places,
         uncertain: is_uncertain(Some(places), rel),
         picks,
         cell,
     };
-    group_to(alloc, columns, having, items, query)
+    group_to(alloc, columns, having, items, job)
 }
 
 /// The rows of the groups under the output columns.
@@ -112,16 +112,16 @@ fn group_to(
     columns: Scope,
     having: Option<&Expr>,
     items: &Items,
-    query: Query,
+    job: Job,
 ) -> Result<Rel, EvalFault>
     requires names { Distinct (item_names items.now) }
-    requires columns { columns_in query items.now ≡ Ok columns }
-    requires query { IsOf query }
+    requires columns { columns_in job items.now ≡ Ok columns }
+    requires job { IsOf job }
     ensures { Gives result
-        (grouped_in query.entry columns (option_copied having.entry) items.now) }
+        (grouped_in job.entry columns (option_copied having.entry) items.now) }
 {
-    query.rel.law_of_rules();
-    let made = rows_of(alloc, having, items.as_slice(), query)?;
-    let is_open = may_lack_groups(query.places, query.rel) | made.marked;
+    job.rel.law_of_rules();
+    let made = rows_of(alloc, having, items.as_slice(), job)?;
+    let is_open = may_lack_groups(job.places, job.rel) | made.marked;
     Rel::new(alloc, columns, made.rows, is_open, false)
 }

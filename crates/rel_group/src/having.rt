@@ -6,9 +6,9 @@ ghost use Rattle.rel_group.specs.Groups.{certain};
 ghost use Rattle.rel_group.specs.Calls.{bound_in, condition_in, having_in, setting_in, tested_in};
 
 use crate::binding::bound_lot;
+use crate::job::Job;
 use crate::keys::once;
 use crate::parts::{Lot, Lots, TestedLot};
-use crate::query::Query;
 use cell_errors::EvalFault;
 use dataset_types::{Marked, MarkedValues};
 use expr_lang::Expr;
@@ -36,12 +36,12 @@ pub fn certain_values(alloc: Global, values: Values) -> Result<MarkedValues, NoM
 }
 
 /// The columns of the key with the values of a group's key.
-pub fn key_row(alloc: Global, query: &Query, lot: &Lot) -> Result<Bindings, NoMemory>
-    ensures { IfOk result (λ row. row ≡ (setting_in query.now (bound_in query.now lot.now)).row) }
+pub fn key_row(alloc: Global, job: &Job, lot: &Lot) -> Result<Bindings, NoMemory>
+    ensures { IfOk result (λ row. row ≡ (setting_in job.now (bound_in job.now lot.now)).row) }
 {
-    let values = once(alloc, query.places, lot.key.as_slice())?;
+    let values = once(alloc, job.places, lot.key.as_slice())?;
     let values = certain_values(alloc, values)?;
-    bind(alloc, query.columns.as_slice(), values.as_slice())
+    bind(alloc, job.columns.as_slice(), values.as_slice())
 }
 
 fn test_over(
@@ -49,18 +49,18 @@ fn test_over(
     condition: &Expr,
     lot: &Lot,
     rows: &[Bindings],
-    query: &Query,
+    job: &Job,
 ) -> Result<Test, EvalFault>
-    requires { rows.now ≡ (bound_in query.now lot.now).rows }
-    ensures { Gives result (condition_in query.now condition.now (bound_in query.now lot.now)) }
+    requires { rows.now ≡ (bound_in job.now lot.now).rows }
+    ensures { Gives result (condition_in job.now condition.now (bound_in job.now lot.now)) }
 {
-    let row = key_row(alloc, query, lot)?;
+    let row = key_row(alloc, job, lot)?;
     let setting = Setting {
         row: &row,
         group: Some(rows),
-        marked: query.uncertain,
-        picks: query.picks,
-        cell: query.cell,
+        marked: job.uncertain,
+        picks: job.picks,
+        cell: job.cell,
     };
     let value = eval_in(alloc, condition, &setting)?;
     Ok(Test {
@@ -69,40 +69,35 @@ fn test_over(
     })
 }
 
-fn test_in(alloc: Global, condition: &Expr, lot: &Lot, query: &Query) -> Result<Test, EvalFault>
-    ensures { Gives result (condition_in query.now condition.now (bound_in query.now lot.now)) }
+fn test_in(alloc: Global, condition: &Expr, lot: &Lot, job: &Job) -> Result<Test, EvalFault>
+    ensures { Gives result (condition_in job.now condition.now (bound_in job.now lot.now)) }
 {
-    let rows = bound_lot(alloc, query, lot)?;
-    test_over(alloc, condition, lot, rows.as_slice(), query)
+    let rows = bound_lot(alloc, job, lot)?;
+    test_over(alloc, condition, lot, rows.as_slice(), job)
 }
 
 fn having_test(
     alloc: Global,
     having: Option<&Expr>,
     lot: &Lot,
-    query: &Query,
+    job: &Job,
 ) -> Result<Test, EvalFault>
     ensures { Gives result
-        (having_in query.now (option_copied having.entry) (bound_in query.now lot.now)) }
+        (having_in job.now (option_copied having.entry) (bound_in job.now lot.now)) }
 {
     match having {
         None => Ok(Test {
             holds: true,
             marked: false,
         }),
-        Some(condition) => test_in(alloc, condition, lot, query),
+        Some(condition) => test_in(alloc, condition, lot, job),
     }
 }
 
-fn tested(
-    alloc: Global,
-    having: Option<&Expr>,
-    lot: Lot,
-    query: &Query,
-) -> Result<TestedLot, EvalFault>
-    ensures { Gives result (tested_in query.now (option_copied having.entry) lot) }
+fn tested(alloc: Global, having: Option<&Expr>, lot: Lot, job: &Job) -> Result<TestedLot, EvalFault>
+    ensures { Gives result (tested_in job.now (option_copied having.entry) lot) }
 {
-    let test = having_test(alloc, having, &lot, query)?;
+    let test = having_test(alloc, having, &lot, job)?;
     Ok(TestedLot { lot, test })
 }
 
@@ -112,13 +107,13 @@ pub fn all_tested(
     alloc: Global,
     having: Option<&Expr>,
     lots: Lots,
-    query: &Query,
+    job: &Job,
 ) -> Result<ListOf<TestedLot>, EvalFault>
-    ensures { Gives result (collect (tested_in query.now (option_copied having.entry)) lots) }
+    ensures { Gives result (collect (tested_in job.now (option_copied having.entry)) lots) }
 {
     let mut all = ListOf::new(alloc)?;
     for lot in lots.into_vec() {
-        let one = tested(alloc, having, lot, query)?;
+        let one = tested(alloc, having, lot, job)?;
         all.push(alloc, one)?;
     }
     Ok(all)

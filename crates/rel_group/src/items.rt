@@ -4,12 +4,12 @@ ghost use Rattle.cell_errors.specs.Answers.{Gives};
 ghost use Rattle.relations.specs.Batches.{gathered};
 ghost use Rattle.relations.specs.Conditions.{kept};
 ghost use Rattle.rel_group.specs.Calls as calls;
-ghost use Rattle.rel_group.specs.Calls.{IsPlaced, bound_in, item_in, items_in, key_bindings, lot_row};
+ghost use Rattle.rel_group.specs.Calls.{HasPlaces, bound_in, item_in, items_in, key_bindings, lot_row};
 
 use crate::binding::bound_lot;
 use crate::having::key_row;
+use crate::job::Job;
 use crate::parts::{Lot, TestedLot};
-use crate::query::Query;
 use crate::reading::read_values;
 use cell_errors::EvalFault;
 use dataset_types::{Marked, MarkedValues, Row, Rows};
@@ -42,39 +42,34 @@ fn values_over(
     items: &[Item],
     row: &Bindings,
     rows: &[Bindings],
-    query: &Query,
+    job: &Job,
     lot: &Lot,
 ) -> Result<MarkedValues, EvalFault>
-    requires row { row.now ≡ key_bindings query.now lot.now }
-    requires rows { rows.now ≡ (bound_in query.now lot.now).rows }
-    ensures { Gives result (calls.values_in query.now items.now (bound_in query.now lot.now)) }
+    requires row { row.now ≡ key_bindings job.now lot.now }
+    requires rows { rows.now ≡ (bound_in job.now lot.now).rows }
+    ensures { Gives result (calls.values_in job.now items.now (bound_in job.now lot.now)) }
 {
     let setting = Setting {
         row,
         group: Some(rows),
-        marked: query.uncertain,
-        picks: query.picks,
-        cell: query.cell,
+        marked: job.uncertain,
+        picks: job.picks,
+        cell: job.cell,
     };
     group_values(alloc, items, &setting)
 }
 
 /// The values of the items. The rows of the lot are bound only where an item can't be read without.
-fn values_in(
-    alloc: Global,
-    items: &[Item],
-    lot: &Lot,
-    query: &Query,
-) -> Result<MarkedValues, EvalFault>
-    requires placed { IsPlaced query.now }
-    ensures { Gives result (calls.values_in query.now items.now (bound_in query.now lot.now)) }
+fn values_in(alloc: Global, items: &[Item], lot: &Lot, job: &Job) -> Result<MarkedValues, EvalFault>
+    requires places { HasPlaces job.now }
+    ensures { Gives result (calls.values_in job.now items.now (bound_in job.now lot.now)) }
 {
-    let row = key_row(alloc, query, lot)?;
-    match read_values(alloc, items, &row, lot, query)? {
+    let row = key_row(alloc, job, lot)?;
+    match read_values(alloc, items, &row, lot, job)? {
         Some(values) => Ok(values),
         None => {
-            let rows = bound_lot(alloc, query, lot)?;
-            values_over(alloc, items, &row, rows.as_slice(), query, lot)
+            let rows = bound_lot(alloc, job, lot)?;
+            values_over(alloc, items, &row, rows.as_slice(), job, lot)
         }
     }
 }
@@ -98,10 +93,10 @@ fn group_row(
     alloc: Global,
     items: &[Item],
     tested: &TestedLot,
-    query: &Query,
+    job: &Job,
 ) -> Result<Batch, EvalFault>
-    requires placed { IsPlaced query.now }
-    ensures { Gives result (calls.row_in query.now items.now tested.now) }
+    requires places { HasPlaces job.now }
+    ensures { Gives result (calls.row_in job.now items.now tested.now) }
 {
     if !tested.test.holds {
         let rows = Rows::new(alloc)?;
@@ -110,7 +105,7 @@ fn group_row(
             marked: tested.test.marked,
         });
     }
-    let values = values_in(alloc, items, &tested.lot, query)?;
+    let values = values_in(alloc, items, &tested.lot, job)?;
     Ok(kept_row(alloc, &tested.lot, values, tested.test)?)
 }
 
@@ -120,14 +115,14 @@ pub fn all_rows(
     alloc: Global,
     items: &[Item],
     lots: &[TestedLot],
-    query: &Query,
+    job: &Job,
 ) -> Result<Batch, EvalFault>
-    requires placed { IsPlaced query.now }
-    ensures { Gives result (gathered (calls.row_in query.now items.now) lots.now) }
+    requires places { HasPlaces job.now }
+    ensures { Gives result (gathered (calls.row_in job.now items.now) lots.now) }
 {
     let mut all = Batch::new(alloc)?;
     for lot in lots {
-        let made = group_row(alloc, items, lot, query)?;
+        let made = group_row(alloc, items, lot, job)?;
         all.add(alloc, made)?;
     }
     Ok(all)

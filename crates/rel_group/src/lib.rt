@@ -12,12 +12,12 @@ mod distinct_rows;
 mod grouping;
 mod having;
 mod items;
+mod job;
 mod keyed;
 mod keys;
 mod laws;
 mod parts;
 mod placing;
-mod query;
 mod reading;
 #[cfg(test)]
 mod tests;

@@ -4,12 +4,12 @@ ghost use Rattle.std.specs.Option.{option_copied};
 ghost use Rattle.value_types.specs.declared.value.Value.TheVariants.{Int};
 ghost use Rattle.expr_lang.specs.declared.expr.Expr.{CountAll};
 ghost use Rattle.rel_group.specs.Calls as calls;
-ghost use Rattle.rel_group.specs.Calls.{IsPlaced, MayGive, bound_in, expr_in, key_bindings};
+ghost use Rattle.rel_group.specs.Calls.{HasPlaces, MayGive, bound_in, expr_in, key_bindings};
 ghost use Rattle.rel_group.specs.Calls.{operands_at, over_in, rows_by, with_operand};
 
 use crate::binding::row_at;
+use crate::job::Job;
 use crate::parts::Lot;
-use crate::query::Query;
 use cell_errors::EvalFault;
 use dataset_types::{Marked, MarkedValues, Row};
 use expr_lang::Expr;
@@ -79,20 +79,20 @@ fn over_column(
     op: Aggregate,
     of: &Expr,
     lot: &Lot,
-    query: &Query,
+    job: &Job,
 ) -> Result<Option<Marked>, EvalFault>
-    requires placed { IsPlaced query.now }
-    ensures { MayGive result (over_in op query.now lot.now of.now) }
+    requires places { HasPlaces job.now }
+    ensures { MayGive result (over_in op job.now lot.now of.now) }
 {
-    let rows = query.rel.rows().as_slice();
-    let width = query.rel.columns().len();
-    match query.placed.place_of(of) {
+    let rows = job.rel.rows().as_slice();
+    let width = job.rel.columns().len();
+    match job.column_places.place_of(of) {
         None => Ok(None),
         Some(place) => match read_operands(alloc, width, place, rows, lot.rows.as_slice())? {
             None => Ok(None),
             Some(all) => Ok(Some(Marked {
                 value: aggregated(alloc, op, all.values)?,
-                marked: query.uncertain | all.marked,
+                marked: job.uncertain | all.marked,
             })),
         },
     }
@@ -113,13 +113,13 @@ fn row_count(rows: &[Row], of_group: &[usize]) -> Value
 
 /// COUNT(*).
 #[tactic(auto, using(crate::proofs::ReadLots::counted))]
-fn count_all(lot: &Lot, query: &Query) -> Marked
-    ensures { expr_in query.now lot.now CountAll ≡ Ok result }
+fn count_all(lot: &Lot, job: &Job) -> Marked
+    ensures { expr_in job.now lot.now CountAll ≡ Ok result }
 {
-    let rows = query.rel.rows().as_slice();
+    let rows = job.rel.rows().as_slice();
     Marked {
         value: row_count(rows, lot.rows.as_slice()),
-        marked: query.uncertain,
+        marked: job.uncertain,
     }
 }
 
@@ -130,19 +130,19 @@ fn read_value(
     expr: &Expr,
     row: &Bindings,
     lot: &Lot,
-    query: &Query,
+    job: &Job,
 ) -> Result<Option<Marked>, EvalFault>
-    requires placed { IsPlaced query.now }
-    requires row { row.now ≡ key_bindings query.now lot.now }
-    ensures { MayGive result (expr_in query.now lot.now expr.now) }
+    requires places { HasPlaces job.now }
+    requires row { row.now ≡ key_bindings job.now lot.now }
+    ensures { MayGive result (expr_in job.now lot.now expr.now) }
 {
     match expr {
-        Expr::Column { .. } => Ok(Some(eval(alloc, expr, row, query.picks, query.cell)?)),
-        Expr::CountAll => Ok(Some(count_all(lot, query))),
-        Expr::Count(of) => over_column(alloc, Aggregate::Count, of.get(), lot, query),
-        Expr::Sum(of) => over_column(alloc, Aggregate::Sum, of.get(), lot, query),
-        Expr::Min(of) => over_column(alloc, Aggregate::Min, of.get(), lot, query),
-        Expr::Max(of) => over_column(alloc, Aggregate::Max, of.get(), lot, query),
+        Expr::Column { .. } => Ok(Some(eval(alloc, expr, row, job.picks, job.cell)?)),
+        Expr::CountAll => Ok(Some(count_all(lot, job))),
+        Expr::Count(of) => over_column(alloc, Aggregate::Count, of.get(), lot, job),
+        Expr::Sum(of) => over_column(alloc, Aggregate::Sum, of.get(), lot, job),
+        Expr::Min(of) => over_column(alloc, Aggregate::Min, of.get(), lot, job),
+        Expr::Max(of) => over_column(alloc, Aggregate::Max, of.get(), lot, job),
         _ => Ok(None),
     }
 }
@@ -154,15 +154,15 @@ pub fn read_values(
     items: &[Item],
     row: &Bindings,
     lot: &Lot,
-    query: &Query,
+    job: &Job,
 ) -> Result<Option<MarkedValues>, EvalFault>
-    requires placed { IsPlaced query.now }
-    requires row { row.now ≡ key_bindings query.now lot.now }
-    ensures { MayGive result (calls.values_in query.now items.now (bound_in query.now lot.now)) }
+    requires places { HasPlaces job.now }
+    requires row { row.now ≡ key_bindings job.now lot.now }
+    ensures { MayGive result (calls.values_in job.now items.now (bound_in job.now lot.now)) }
 {
     let mut values = MarkedValues::new(alloc)?;
     for item in items {
-        match read_value(alloc, &item.expr, row, lot, query)? {
+        match read_value(alloc, &item.expr, row, lot, job)? {
             None => return Ok(None),
             Some(value) => values.push(alloc, value)?,
         }

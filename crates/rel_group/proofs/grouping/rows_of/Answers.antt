@@ -7,5 +7,5 @@ use Rattle.rel_group.proofs.grouping.rows_of.Goals as goal
 
 pub returns : goal.returns
 returns c =
-    let stand = subst (λ rows. StandFor c.args.query.places.now rows c.in_ok-lots.lots) (c.as_slice.ensures ∙ c.rows.ensures) c.in_ok-lots.ensures in
-    subst (Gives c.group_rows.result) (rows_are c.args.query (option_copied c.args.having) c.args.items.now c.in_ok-lots.lots c.requires.query stand) c.group_rows.ensures
+    let stand = subst (λ rows. StandFor c.args.job.places.now rows c.in_ok-lots.lots) (c.as_slice.ensures ∙ c.rows.ensures) c.in_ok-lots.ensures in
+    subst (Gives c.group_rows.result) (rows_are c.args.job (option_copied c.args.having) c.args.items.now c.in_ok-lots.lots c.requires.job stand) c.group_rows.ensures

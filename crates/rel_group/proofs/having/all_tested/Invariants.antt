@@ -10,5 +10,5 @@ abbrev pub invariant-loop-lot : goal.invariant-loop-lot
 invariant-loop-lot l =
     (goal.iterator-loop-lot).can_next l.lot-iterator ×
     (goal.iterator-loop-lot).is_finite l.lot-iterator ×
-    (collect (tested_in l.query (option_copied l.having)) l.fn.lots
-    ≡ rest_of l.all (tested_in l.query (option_copied l.having)) (into_iter_items l.lot-iterator))
+    (collect (tested_in l.job (option_copied l.having)) l.fn.lots
+    ≡ rest_of l.all (tested_in l.job (option_copied l.having)) (into_iter_items l.lot-iterator))

@@ -1,15 +1,15 @@
-//! What is the same for all groups of a query.
+//! What is the same for all groups of a job.
 use dataset_types::Picks;
 use expr_meaning::Scope;
 use relations::{ColumnPlaces, Rel};
 
 /// What HAVING and the items are told beside the group.
 #[derive(Clone, Copy)]
-pub struct Query<'a> {
+pub struct Job<'a> {
     /// The relation that is grouped.
     pub rel: &'a Rel,
     /// Its columns with their places.
-    pub placed: &'a ColumnPlaces,
+    pub column_places: &'a ColumnPlaces,
     /// The columns of the key, each once.
     pub columns: &'a Scope,
     /// The places of the key.
