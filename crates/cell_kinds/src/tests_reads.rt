@@ -52,12 +52,9 @@ fn a_command_reads_its_dataset_and_writes_it(rt: HostRuntime) -> Result<(), Fail
     let record = run(alloc, &env(alloc, true)?, CellKind::Vizual(command))?;
     assert_eq!(rt; record.reads().len(), 1);
     assert_eq!(rt; record.outcome().status, CellStatus::Ok);
-    let written = record
-        .outcome()
-        .writes
-        .as_slice()
-        .first()
-        .ok_or("no write")?;
+    let writes = record.outcome().writes.as_slice();
+    assert_eq!(rt; writes.len(), 1);
+    let written = writes.first().ok_or("no write")?;
     assert!(rt; written.slot.doubt);
     let table = written.slot.table.as_ref().ok_or("no dataset")?;
     assert_eq!(rt; table.get().columns().len(), 1);
@@ -75,12 +72,9 @@ fn a_select_reads_its_datasets_and_writes_another(rt: HostRuntime) -> Result<(),
         let record = run(alloc, &env(alloc, doubt)?, kind)?;
         assert_eq!(rt; record.reads().len(), 1);
         assert_eq!(rt; record.outcome().status, CellStatus::Ok);
-        let written = record
-            .outcome()
-            .writes
-            .as_slice()
-            .first()
-            .ok_or("no write")?;
+        let writes = record.outcome().writes.as_slice();
+        assert_eq!(rt; writes.len(), 1);
+        let written = writes.first().ok_or("no write")?;
         assert_eq!(rt; written.name.as_text(), "u");
         assert_eq!(rt; written.slot.doubt, doubt);
         let table = written.slot.table.as_ref().ok_or("no dataset")?;
@@ -107,32 +101,5 @@ fn an_absent_dataset_is_an_error_that_was_read(rt: HostRuntime) -> Result<(), Fa
     let record = run(alloc, &env(alloc, false)?, select)?;
     assert_eq!(rt; record.reads().len(), 2);
     assert_eq!(rt; record.outcome().status, error);
-    Ok(())
-}
-
-#[test]
-fn a_text_that_errs_is_looked_at_before_any_read(rt: HostRuntime) -> Result<(), Fail> {
-    let alloc = rt.alloc();
-    let select = CellKind::Sql {
-        text: words(alloc, "SELECT")?,
-        into: name("v")?,
-    };
-    let record = run(alloc, &env(alloc, false)?, select)?;
-    assert_eq!(rt; record.reads().len(), 0);
-    assert_eq!(rt;
-        record.outcome().status,
-        CellStatus::Error(CellError::Syntax { at: 6 })
-    );
-    let formula = CellKind::Vizual(Command::Formula {
-        dataset: name("t")?,
-        column: name("a")?,
-        text: words(alloc, "1 +")?,
-    });
-    let record = run(alloc, &env(alloc, false)?, formula)?;
-    assert_eq!(rt; record.reads().len(), 0);
-    assert_eq!(rt;
-        record.outcome().status,
-        CellStatus::Error(CellError::Syntax { at: 3 })
-    );
     Ok(())
 }
