@@ -1,7 +1,6 @@
 pub mod Places
 pub mod Comparing
 pub mod Looping
-pub mod Gathering
 pub mod KeyOrder
 pub mod Cuts
 pub mod Natural

@@ -110,7 +110,7 @@ fn group_row(
 }
 
 /// The rows of the groups that HAVING keeps.
-#[tactic(auto, using(crate::proofs::Gathering::gathering))]
+#[tactic(auto, using(relations::proofs::Loops::gathering))]
 pub fn all_rows(
     alloc: Global,
     items: &[Item],

@@ -64,4 +64,4 @@ module _ {X : Type 0} (f : X → Answer Batch) where
   stops_at whole b xs i x f' w l e h = stops whole b (drop i xs) (drop (i + 1) xs) x f' w (drop_more xs i x l ∙ ap (λ z. z ∷ drop (i + 1) xs) (sym e)) h
 
 -- what the proof of a loop uses
-pub ruleset gather = (begun, went_on, went_on_at, ended, ended_at)
+pub ruleset gathering = (begun, went_on, went_on_at, ended, ended_at)

@@ -1,4 +1,4 @@
-//! Relations, on which the steps of SELECT work, and the one loop of these steps.
+//! Relations, on which the steps of SELECT work, and what these steps have in common.
 //!
 //! Start at `Rel`, whose type keeps the rules and limits of a relation, and at `specs/Batches.antt`: a step over rows is what
 //! it makes of each of them, in order. `specs/Plain.antt` and `specs/Shown.antt` say what a relation is without its marks
@@ -15,7 +15,6 @@ mod limits;
 mod parts;
 mod places;
 mod rel;
-mod step;
 #[cfg(test)]
 mod tests;
 
@@ -27,4 +26,3 @@ pub use laws::law_of_types;
 pub use parts::{ColumnRefs, Item, Items, RelParts, SortKey, SortKeys};
 pub use places::ColumnPlaces;
 pub use rel::Rel;
-pub use step::{Step, gather};
