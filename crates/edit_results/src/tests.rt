@@ -50,7 +50,13 @@ fn columns_and_rows_become_a_dataset(rt: HostRuntime) {
     let table = table.get();
     assert!(rt; table.columns().len() == 1 && table.rows().len() == 1);
     assert!(rt; table.is_open() && !table.is_loose());
-    assert!(rt; table.rows().as_slice().iter().all(|row| row.id == RowId::Rec(1) && !row.sure));
+    assert!(rt;
+        table
+            .rows()
+            .as_slice()
+            .iter()
+            .all(|row| row.id == RowId::Rec(1) && !row.sure)
+    );
 }
 
 #[test]
