@@ -155,11 +155,11 @@ is_marked (Some m) = m.marked
 abbrev pub key_lt : Keyed → Keyed → Bool
 key_lt a b = is_lt (key_cmp a.key b.key)
 
--- a job whose places are those of the columns of its relation
+-- a job whose column places are those of its relation
 abbrev pub HasPlaces : Job → Type 0
 HasPlaces job = job.column_places.now ≡ job.rel.now.columns
 
--- a job whose columns and doubts are those of its relation
+-- a job whose columns, doubts and column places are those of its relation
 abbrev pub IsOf : Job → Type 0
 IsOf job = (job.columns.now ≡ key_columns job.rel.now.columns job.places.now) × (job.uncertain ≡ is_uncertain (Some job.places.now) job.rel.now) × HasPlaces job
 

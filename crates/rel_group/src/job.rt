@@ -1,4 +1,4 @@
-//! What is the same for all groups of a job.
+//! What is the same for all groups of a relation.
 use dataset_types::Picks;
 use expr_meaning::Scope;
 use relations::{ColumnPlaces, Rel};

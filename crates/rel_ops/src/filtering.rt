@@ -15,7 +15,7 @@ use relations::{Batch, Rel, RelParts, Test, bind_again, qualified_columns, test_
 use std::alloc::Global;
 use value_types::{Name, NoMemory};
 
-/// The condition over a row. Only the values in `bound` are of the row before it.
+/// The condition over a row. `bound` has the row before it, or nothing, and has this row afterwards: the names stay.
 #[tactic(auto, using(crate::proofs::WhereRows::binding))]
 fn test_at(
     alloc: Global,

@@ -87,7 +87,7 @@ fn values_of(
     Ok(values)
 }
 
-/// The items over a row. Only the values in `bound` are of the row before it.
+/// The items over a row. `bound` has the row before it, or nothing, and has this row afterwards: the names stay.
 #[tactic(auto, using(crate::proofs::WhereRows::binding))]
 fn values_at(
     alloc: Global,

@@ -65,7 +65,8 @@ fn put_values(alloc: Global, row: &mut Vec<Binding>, values: &[Marked]) -> Resul
     Ok(())
 }
 
-/// The bindings of a row become those of another row of the same columns. Its names stay where they are.
+/// The bindings of a row become those of another row of the same columns. The names stay where there are as many values; after
+/// `NoMemory` the old bindings are there, or none.
 #[tactic(auto, using(crate::proofs::Revalued::again))]
 pub fn bind_again(
     alloc: Global,
