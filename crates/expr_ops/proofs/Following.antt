@@ -2,6 +2,7 @@
 use Rattle.std.proofs.Common.{◌≡◌, ℕ, zero, suc, ◌+◌, ◌<◌, ◌≤◌, ◌==◌, Bool, true, false, ◌||◌, ◌&&◌, List, [], ◌∷◌, length, drop, get_or, refl, ap, sym, ◌∙◌, arith}
 use Rattle.std.specs.Prelude.{if◌then◌else◌, slice_index_or}
 use Rattle.std.proofs.lemmas.List.{drop_more, drop_all}
+use Rattle.std.proofs.Math.Bool.{and-false, or-false}
 use Rattle.expr_ops.specs.Texts.{is_done, somewhere, after_one, matches}
 use Rattle.expr_ops.specs.LikeSteps.{tail, begins, and_after, one_on, reached, some_passes, none_of}
 
@@ -32,14 +33,6 @@ regrouped : (a o k x r : Bool) → a || ((o && (k && x)) || r) ≡ a || (((o && 
 regrouped true o k x r = refl
 regrouped false true k x r = refl
 regrouped false false k x r = refl
-
-no_or : (a : Bool) → a || false ≡ a
-no_or true = refl
-no_or false = refl
-
-no_and : (a : Bool) → a && false ≡ false
-no_and true = refl
-no_and false = refl
 
 -- ---- the places that a part of a pattern reaches
 
@@ -94,7 +87,7 @@ none_passes test [] text = refl
 none_passes test (c ∷ places) text = none_passes test places (tail text)
 
 pub start_passes : (test : List ℕ → Bool) (text : List ℕ) → some_passes test (true ∷ none_of text) text ≡ test text
-start_passes test text = ap (λ r. test text || r) (none_passes test text (tail text)) ∙ no_or (test text)
+start_passes test text = ap (λ r. test text || r) (none_passes test text (tail text)) ∙ or-false (test text)
 
 pub none_same : (text : List ℕ) → length (none_of text) ≡ length text
 none_same [] = refl
@@ -105,7 +98,7 @@ end_passes [] text d e = let no : ⊥ = omega arith in absurd no
 end_passes (true ∷ []) [] d e = refl
 end_passes (false ∷ []) [] d e = refl
 end_passes (o ∷ p ∷ os) [] d e = let no : ⊥ = omega arith in absurd no
-end_passes (o ∷ os) (c ∷ text) d e = rw (no_and o) (end_passes os text d (omega arith))
+end_passes (o ∷ os) (c ∷ text) d e = rw (and-false o) (end_passes os text d (omega arith))
 
 -- ---- one turn of the loops
 

@@ -7,6 +7,7 @@ use Rattle.std.specs.Cmp.{IsStrictWeakOrder}
 use Rattle.std.specs.declared.cmp.Ordering.{Ordering}
 use Rattle.std.specs.declared.cmp.Ordering.TheVariants.{Less, Equal, Greater}
 use Rattle.std.proofs.lemmas.List.Sorted.{ranks_by}
+use Rattle.std.proofs.Math.Bool.{or-false, or_assoc}
 use Rattle.value_types.specs.Order.{same_key}
 use Rattle.value_types.specs.Same.{key_decides}
 use Rattle.relations.proofs.Gathered.{Each}
@@ -70,14 +71,6 @@ abbrev joined : Lot → List Lot → List Lot
 joined g [] = g ∷ []
 joined g (h ∷ hs) = joined_by (same_key g.key h.key) g h hs
 
-pub or_after : (a b c : Bool) → a || (b || c) ≡ (a || b) || c
-or_after true b c = refl
-or_after false b c = refl
-
-pub or_false : (a : Bool) → a || false ≡ a
-or_false true = refl
-or_false false = refl
-
 after : {A : Type 0} (xs : List A) (y : A) (zs : List A) → (xs ++ y ∷ []) ++ zs ≡ xs ++ (y ∷ zs)
 after [] y zs = refl
 after (x ∷ xs) y zs = ap (λ ws. x ∷ ws) (after xs y zs)
@@ -93,7 +86,7 @@ cut_joins g (x ∷ xs) =
         (if b then joined (with_row g x) (h ∷ hs) else g ∷ joined_by c (single x) h hs) ≡ joined g (joined_by c (single x) h hs)
     two true true h hs e k =
         let s = (key_decides g.key x.key).0 e in
-        rw (e, ap (λ z. same_key z h.key) s ∙ k) (λ i. record { key = g.key; sure = sym (or_after g.sure x.certain h.sure) i; rows = after g.rows x.row h.rows i } ∷ hs)
+        rw (e, ap (λ z. same_key z h.key) s ∙ k) (λ i. record { key = g.key; sure = or_assoc g.sure x.certain h.sure i; rows = after g.rows x.row h.rows i } ∷ hs)
     two true false h hs e k = let s = (key_decides g.key x.key).0 e in rw (e, ap (λ z. same_key z h.key) s ∙ k) refl
     two false true h hs e k = rw e refl
     two false false h hs e k = rw e refl
@@ -150,7 +143,7 @@ from_front x xs e = at (ascending (map key xs)) (ascends (map key xs)) refl
     alone h =
         let same = rows_of_same x xs x.key refl ∙ ap (λ z. x ∷ z) (no_rows xs x.key h) in
         (λ i. record { key = x.key; sure = list_any (λ y. y.certain) (same i); rows = map (λ y. y.row) (same i) })
-        ∙ ap (λ b. record { key = x.key; sure = b; rows = x.row ∷ [] }) (or_false x.certain)
+        ∙ ap (λ b. record { key = x.key; sure = b; rows = x.row ∷ [] }) (or-false x.certain)
 
     on : (o : Ordering) (l : Key) (ls : List Key) → key_cmp x.key l ≡ o → Ascends (l ∷ ls) → ascending (map key xs) ≡ l ∷ ls →
         map (collected (x ∷ xs)) (put_by o x.key l ls (put x.key ls)) ≡ joined_by (same_key x.key l) (single x) (collected xs l) (map (collected xs) ls)

@@ -4,6 +4,7 @@ use Rattle.std.specs.Prelude.{IsTrue, ◌==◌, slice_get}
 use Rattle.std.specs.Bool.{⊤}
 use Rattle.std.specs.List.{list_any, Contains}
 use Rattle.std.proofs.lemmas.Bool.Decides.{Decides-eqb}
+use Rattle.std.proofs.Math.Bool.{or-true}
 use Rattle.value_types.specs.declared.value.Value.{Value}
 use Rattle.value_types.specs.declared.row_id.RowId.{RowId, Key as KeyId, out-RowId}
 use Rattle.value_types.specs.declared.row_id.RowId.TheOpen.{RowId-F}
@@ -250,12 +251,8 @@ has_row : {R : Type 0} (key : R → Key) (rows : List R) (k : Key) → Stands k 
 has_row key [] k s = absurd s
 has_row key (r ∷ rs) k s = elim s [
   | inl e ↦ rw ((key_decides k (key r)).1 (sym e)) refl
-  | inr h ↦ rw (has_row key rs k h) (or_true (same_key k (key r)))
+  | inr h ↦ rw (has_row key rs k h) (or-true (same_key k (key r)))
 ]
-  where
-    or_true : (b : Bool) → b || true ≡ true
-    or_true true = refl
-    or_true false = refl
 
 pub all_certain : (keys : Option (List ℕ)) (rows : List Row) → IsTrue (all_sure rows) → list_any (has_marked_key keys) rows ≡ false → Each (λ r. is_certain keys r ≡ true) rows
 all_certain keys [] s e = tt

@@ -6,6 +6,7 @@ use Rattle.std.specs.Ordering.{is_gt}
 use Rattle.std.specs.declared.cmp.Ordering.{Ordering}
 use Rattle.std.specs.declared.cmp.Ordering.TheVariants.{Less, Equal, Greater}
 use Rattle.std.proofs.lemmas.List.{drop_more, drop_all, take_more, take_all, length-take-le}
+use Rattle.std.proofs.Math.Bool.{or-false, or_assoc}
 use Rattle.value_types.specs.Order.{same_key}
 use Rattle.value_types.specs.Same.{key_decides}
 use Rattle.dataset_types.specs.declared.row.Row.{Row}
@@ -16,7 +17,7 @@ use Rattle.rel_group.specs.declared.keyed.Keyed.{Keyed}
 use Rattle.rel_group.specs.Keys.{key_cmp, put_by, put, ascending, rows_at}
 use Rattle.rel_group.specs.Calls.{with_key, keyed_from, all_keyed, lots_of, single, with_row, collected, all_collected, placed_by, placed, place_of, has_key}
 use Rattle.rel_group.proofs.KeyOrder.{Key, key_exact, Below, below_apart, above, not_same, Stands, Ascends, ascends, into_ascending, each_below, same_ascending}
-use Rattle.rel_group.proofs.Cuts.{key, or_after, or_false, no_rows}
+use Rattle.rel_group.proofs.Cuts.{key, no_rows}
 
 -- ---- the place of a key
 
@@ -127,8 +128,8 @@ module _ (x : Keyed) where
       on false e = e
 
   any_last : (rs : List Keyed) → list_any (λ y. y.certain) (rs ++ x ∷ []) ≡ list_any (λ y. y.certain) rs || x.certain
-  any_last [] = or_false x.certain
-  any_last (r ∷ rs) = ap (λ (b : Bool). r.certain || b) (any_last rs) ∙ or_after r.certain (list_any (λ y. y.certain) rs) x.certain
+  any_last [] = or-false x.certain
+  any_last (r ∷ rs) = ap (λ (b : Bool). r.certain || b) (any_last rs) ∙ sym (or_assoc r.certain (list_any (λ y. y.certain) rs) x.certain)
 
   map_last : {A B : Type 0} (f : A → B) (items : List A) (a : A) → map f (items ++ a ∷ []) ≡ map f items ++ f a ∷ []
   map_last f [] a = refl

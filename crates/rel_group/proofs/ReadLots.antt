@@ -4,6 +4,7 @@ use Rattle.std.specs.Prelude.{if◌then◌else◌, slice_get}
 use Rattle.std.specs.List.{cons_option}
 use Rattle.std.proofs.lemmas.List.{drop_all, length-map}
 use Rattle.std.proofs.lemmas.Bool.{eqb-true}
+use Rattle.std.proofs.Math.Bool.{or-false}
 use Rattle.value_types.specs.declared.value.Value.{Value}
 use Rattle.value_types.specs.declared.value.Value.TheVariants.{Int}
 use Rattle.dataset_types.specs.declared.picks.Pick.{Pick}
@@ -77,10 +78,6 @@ pub ruleset counting = (row_here, missing_here, none_left)
 
 -- ---- what the operands are
 
-or_false : (b : Bool) → b || false ≡ b
-or_false true = refl
-or_false false = refl
-
 or_assoc : (a b c : Bool) → a || (b || c) ≡ (a || b) || c
 or_assoc true b c = refl
 or_assoc false b c = refl
@@ -98,7 +95,7 @@ module _ (columns : List ScopeColumn) (place : ℕ) (e : Expr) (reads : ReadsPla
 
   read_from : (rows : List Row) (o all : Operands) (k : List Value → Answer Value) → operands_from (length columns) place o rows ≡ Some all →
       after o.marked (all_marked (map at (bound_rows columns rows)) o.values k) ≡ record { marked = all.marked; answer = k all.values }
-  read_from [] o all k h = rw (sym (same h)) (λ i. record { marked = or_false o.marked i; answer = k o.values })
+  read_from [] o all k h = rw (sym (same h)) (λ i. record { marked = or-false o.marked i; answer = k o.values })
     where
       same : Some o ≡ Some all → o ≡ all
       same z = cc

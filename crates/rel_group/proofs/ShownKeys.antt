@@ -1,5 +1,6 @@
 -- The keys and the groups of what is shown.
 use Rattle.std.proofs.Common.{◌≡◌, ℕ, Bool, true, false, not, ◌&&◌, ◌||◌, Option, Some, List, [], ◌∷◌, ◌++◌, map, filter, cond, refl, subst, ap, ◌∙◌, sym, inl, inr}
+use Rattle.std.proofs.Math.Bool.{or-true}
 use Rattle.std.specs.Prelude.{is_none, option_map, IsTrue}
 use Rattle.std.specs.List.{cons_option, filter_map, flat_map, list_any}
 use Rattle.value_types.specs.Order.{same_key}
@@ -83,15 +84,11 @@ module _ (keys : Option (List ℕ)) where
   abbrev known_keys : List Row → List Key
   known_keys rows = filter_map (shown_key keys) (sure_rows rows)
 
-  or_true : (b : Bool) → b || true ≡ true
-  or_true true = refl
-  or_true false = refl
-
   later : (r : Row) (rs : List Row) (k : Key) → sure_at rs k ≡ true → sure_at (r ∷ rs) k ≡ true
   later r rs k e = on (same_key k (key_values keys r))
     where
       on : (b : Bool) → list_any (is_certain keys) (cond b (r ∷ rows_at (key_values keys) rs k) (rows_at (key_values keys) rs k)) ≡ true
-      on true = rw e (or_true (is_certain keys r))
+      on true = rw e (or-true (is_certain keys r))
       on false = e
 
   here : (r : Row) (rs : List Row) (k : Key) → key_values keys r ≡ k → is_certain keys r ≡ true → sure_at (r ∷ rs) k ≡ true

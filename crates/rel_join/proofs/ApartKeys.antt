@@ -1,5 +1,6 @@
 -- Columns that are tested to be apart are.
 use Rattle.std.proofs.Common.{◌≡◌, Bool, true, false, not, ◌&&◌, ◌||◌, Option, Some, None, List, [], ◌∷◌, refl, subst, ap, ◌∙◌, sym, inl, inr}
+use Rattle.std.proofs.Math.Bool.{or-true}
 use Rattle.std.specs.List.{list_any, Contains}
 use Rattle.std.specs.Str.{bytes_eq}
 use Rattle.std.specs.Cmp.Lexicographic.{bytes_decides}
@@ -19,16 +20,12 @@ same c d e =
     let n : bytes_eq c.column.name d.column.name ≡ true = ap (bytes_eq c.column.name) (ap (λ (k : Option Name × Name). k.1) e) ∙ (bytes_decides c.column.name c.column.name).1 refl in
     rw (q, n) refl
 
-or_true : (b : Bool) → b || true ≡ true
-or_true true = refl
-or_true false = refl
-
 -- a column whose key stands there is found
 found : (c : ScopeColumn) (right : List ScopeColumn) → Contains (column_keys right) (column_key c) → list_any (same_key c) right ≡ true
 found c [] h = absurd (empty_contains (column_key c) h)
 found c (d ∷ right) h = elim (Contains-cases (column_key d) (column_keys right) (column_key c) h) [
   | inl e ↦ ap (λ b. b || list_any (same_key c) right) (same c d e)
-  | inr there ↦ ap (λ b. same_key c d || b) (found c right there) ∙ or_true (same_key c d)
+  | inr there ↦ ap (λ b. same_key c d || b) (found c right there) ∙ or-true (same_key c d)
 ]
 
 parts : (a b : Bool) → a && b ≡ true → (a ≡ true) × (b ≡ true)

@@ -2,6 +2,7 @@
 use Rattle.std.proofs.Common.{◌≡◌, ℕ, zero, suc, ◌-◌, ◌<◌, ◌≤◌, length, Bool, true, false, ◌||◌, Some, List, [], ◌∷◌, ◌++◌, arith, refl, ap, sym, ◌∙◌}
 use Rattle.std.specs.Prelude.{slice_get}
 use Rattle.std.proofs.lemmas.List.{length-append}
+use Rattle.std.proofs.Math.Bool.{or-false}
 use Rattle.dataset_types.specs.declared.row.Marked.{Marked}
 use Rattle.dataset_types.specs.declared.row.Row.{Row}
 use Rattle.expr_lang.specs.declared.expr.Expr.{Expr, Binary}
@@ -22,12 +23,8 @@ use Rattle.rel_join.specs.Jobs.{job_on}
 
 -- ---- an equality
 
-or_false : (b : Bool) → b || false ≡ b
-or_false true = refl
-or_false false = refl
-
 both_seen : (x y : Marked) → applied_marked Equal (seen x) (seen y) ≡ equal_seen x y
-both_seen x y = rw (or_false y.marked) refl
+both_seen x y = rw (or-false y.marked) refl
 
 -- where both operands read places, the equality compares these
 pub compares : (columns : List ScopeColumn) (at : Equality) (a b : Expr) → ReadsPlace columns at.first a → ReadsPlace columns at.second b → ComparesPlaces columns at (Binary Equal a b)

@@ -4,6 +4,7 @@ use Rattle.std.specs.Prelude.{is_none, IsTrue}
 use Rattle.std.specs.Bool.{⊤}
 use Rattle.std.specs.List.{flat_map, list_any}
 use Rattle.std.proofs.lemmas.List.{map-append}
+use Rattle.std.proofs.Math.Bool.{or-false}
 use Rattle.value_types.specs.declared.value.Value.{Value}
 use Rattle.value_types.specs.declared.value.Value.TheVariants.{Null}
 use Rattle.value_types.specs.declared.row_id.RowId.{Pair}
@@ -148,10 +149,6 @@ outer_unsure width right_open marked l [] k e =
     one_shown (alone width right_open marked l) ∙ ap (λ s. kept_if (s && (not right_open && not marked)) (shown_row (alone width right_open marked l))) k
 outer_unsure width right_open marked l (r ∷ rs) k e = e
 
-or_nothing : (a : Bool) → a || false ≡ a
-or_nothing true = refl
-or_nothing false = refl
-
 -- ---- one left row
 
 module _ (left : List ScopeColumn) (b : RelData) (on : Expr) (picks : List Pick) (cell : ℕ) (is_open : Bool)
@@ -172,7 +169,7 @@ module _ (left : List ScopeColumn) (b : RelData) (on : Expr) (picks : List Pick)
       (outer_unsure (length b.columns) b.is_open m.marked l m.rows k (unsure_pairs left b.columns on picks cell is_open l k b.rows m e), rw (u refl) refl)
   step_shows Inner l m true k u e =
       let q = sure_pairs left b.columns on picks cell is_open l k b.rows m own e in
-      (q.0 ∙ sym (append-nil _), q.1 ∙ ap (λ z. is_open || z) (sym (or_nothing (mark_of (shown_row l)))))
+      (q.0 ∙ sym (append-nil _), q.1 ∙ ap (λ z. is_open || z) (sym (or-false (mark_of (shown_row l)))))
   step_shows Outer l m true k u e =
       let q = sure_pairs left b.columns on picks cell is_open l k b.rows m own e in
       let r = sure_pairs left b.columns on picks cell b.is_open l k b.rows m (unsure_opens b.is_open b.rows sides) e in
@@ -184,7 +181,7 @@ module _ (left : List ScopeColumn) (b : RelData) (on : Expr) (picks : List Pick)
             ∙ (ap (λ c. or_alone found c (shown_alone (length b.columns) (shown_row l)))
             (certain_same b.is_open m.marked (mark_of (shown_row l)) (λ o. subst (λ z. z || m.marked ≡ z || mark_of (shown_row l)) o r.1))
             ∙ sym (append-nil _)),
-        q.1 ∙ ap (λ z. is_open || z) (sym (or_nothing (mark_of (shown_row l)))),
+        q.1 ∙ ap (λ z. is_open || z) (sym (or-false (mark_of (shown_row l)))),
       )
 
   left_shows : (kind : Kind) (l : Row) (out : Batch) → UnsureOpens is_open l → left_row kind left b on picks cell l ≡ Ok out →

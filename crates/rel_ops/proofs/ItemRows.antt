@@ -1,5 +1,6 @@
 -- The loop of the items over the rows.
 use Rattle.std.proofs.Common.{◌≡◌, ℕ, ◌+◌, ◌<◌, ◌||◌, Bool, true, false, length, drop, get_or, Ok, List, refl}
+use Rattle.std.proofs.Math.Bool.{or-false}
 use Rattle.dataset_types.specs.declared.picks.Pick.{Pick}
 use Rattle.dataset_types.specs.declared.row.Marked.{Marked}
 use Rattle.dataset_types.specs.declared.row.Row.{Row}
@@ -35,13 +36,9 @@ module _ (columns : List ScopeColumn) (items : List Item) (picks : List Pick) (c
       i < length rows → r ≡ get_or rows i r → Fails f (values_at columns items picks cell r) → Fails f whole
   rows_stop whole b rows i r f w l e h = stops_at step whole b rows i r f w l e (fails_too r f h)
 
-or_false : (b : Bool) → b || false ≡ b
-or_false true = refl
-or_false false = refl
-
 -- an item's row adds no mark
 pub row_adds : (b : Batch) (r : Row) (values : List Marked) → (both b (with_values r values)).marked ≡ b.marked
-row_adds b r values = or_false b.marked
+row_adds b r values = or-false b.marked
 
 -- what the proof of the loop uses
 pub ruleset rows = (begun, row_on, ended_at, none_under)

@@ -3,6 +3,7 @@ use Rattle.std.proofs.Common.{◌≡◌, Bool, true, false, ◌||◌, Option, So
 use Rattle.std.specs.Prelude.{if◌then◌else◌, option_map}
 use Rattle.std.specs.List.{list_any, Contains}
 use Rattle.std.proofs.lemmas.List.Elements.{Contains-append_right}
+use Rattle.std.proofs.Math.Bool.{or-true}
 use Rattle.value_types.specs.declared.value.Value.{Value}
 use Rattle.value_types.specs.declared.row_id.RowId.{RowId}
 use Rattle.value_types.specs.SameIds.{same_id, id_decides}
@@ -88,14 +89,10 @@ passes_any : (m : Values → Bool) (xs : List ShownRow) (i : RowId) (vs : Values
 passes_any m [] i vs e k = cc
 passes_any m (x ∷ xs) i vs e k = by (same_id x.id i) e (λ h. passes_any m xs i vs h k)
   where
-    or_true : (b : Bool) → b || true ≡ true
-    or_true true = refl
-    or_true false = refl
-
     by : (b : Bool) → (if b then Some x.values else values_at xs i) ≡ Some vs → (values_at xs i ≡ Some vs → list_any (λ r. m r.values) xs ≡ true) →
         (m x.values || list_any (λ r. m r.values) xs) ≡ true
     by true h rest = rw (ap m (some_is x.values vs h) ∙ k) refl
-    by false h rest = rw (rest h) (or_true (m x.values))
+    by false h rest = rw (rest h) (or-true (m x.values))
 
 pub any_by_id : (m : Values → Bool) (xs ys : List ShownRow) → Distinct (shown_ids xs) → Distinct (shown_ids ys) → values_at xs ≡ values_at ys →
     list_any (λ r. m r.values) xs ≡ list_any (λ r. m r.values) ys

@@ -1,6 +1,7 @@
 -- A loop over a step that is `gathered`: what has come so far, and then the rest.
 use Rattle.std.proofs.Common.{◌≡◌, ℕ, ◌+◌, ◌<◌, ◌≤◌, length, drop, get_or, Bool, true, false, ◌||◌, Ok, Err, List, [], ◌∷◌, refl, ap, sym, ◌∙◌, append_assoc, append-nil}
 use Rattle.std.proofs.lemmas.List.{drop_more, drop_all}
+use Rattle.std.proofs.Math.Bool.{or-false, or_assoc}
 use Rattle.cell_errors.specs.Answers.{Answer, and_then, Fails}
 use Rattle.cell_errors.specs.declared.fault.CellError.{CellError}
 use Rattle.cell_errors.specs.declared.fault.EvalFault.{EvalFault}
@@ -11,14 +12,6 @@ use Rattle.relations.specs.Batches.{nothing, both, gathered}
 -- a batch, and after it what is made of the rest
 unfoldable pub resumed : {X : Type 0} → Batch → (X → Answer Batch) → List X → Answer Batch
 resumed b f xs = and_then (gathered f xs) (λ c. Ok (both b c))
-
-or_after : (a b c : Bool) → a || (b || c) ≡ (a || b) || c
-or_after true b c = refl
-or_after false b c = refl
-
-or_nothing : (a : Bool) → a || false ≡ a
-or_nothing true = refl
-or_nothing false = refl
 
 module _ {X : Type 0} (f : X → Answer Batch) where
   pub begun : (xs : List X) → gathered f xs ≡ resumed nothing f xs
@@ -34,7 +27,7 @@ module _ {X : Type 0} (f : X → Answer Batch) where
   went_on b y xs rest x e k = rw (e, k) (turn (gathered f rest))
     where
       turn : (a : Answer Batch) → and_then (and_then a (λ c. Ok (both y c))) (λ c. Ok (both b c)) ≡ and_then a (λ c. Ok (both (both b y) c))
-      turn (Ok c) = rw (or_after b.marked y.marked c.marked, append_assoc) refl
+      turn (Ok c) = rw (sym (or_assoc b.marked y.marked c.marked), append_assoc) refl
       turn (Err e) = refl
 
   pub stopped : (b : Batch) (xs rest : List X) (x : X) (e : CellError) → xs ≡ x ∷ rest → f x ≡ Err e → resumed b f xs ≡ Err e
@@ -43,7 +36,7 @@ module _ {X : Type 0} (f : X → Answer Batch) where
 
   pub ended : (b : Batch) (xs : List X) → xs ≡ [] → resumed b f xs ≡ Ok b
   unfolding resumed
-  ended b xs e = rw (e, append-nil, or_nothing b.marked) refl
+  ended b xs e = rw (e, append-nil, or-false b.marked) refl
 
   -- the same over a slice
   pub went_on_at : (b y : Batch) (xs : List X) (i : ℕ) (x : X) → i < length xs → x ≡ get_or xs i x → f x ≡ Ok y →

@@ -4,6 +4,7 @@ use Rattle.std.specs.Prelude.{◌==◌, nat_le, slice_get, filter}
 use Rattle.std.specs.List.{flat_map, list_any}
 use Rattle.std.proofs.lemmas.Bool.Decides.{Decides-eqb, nat_tests}
 use Rattle.std.proofs.lemmas.List.Folds.{list_any-append}
+use Rattle.std.proofs.Math.Bool.{or-false, or-true}
 use Rattle.cell_errors.specs.Answers.{Answer, and_then}
 use Rattle.expr_lang.specs.declared.expr.Expr.{Expr}
 use Rattle.expr_meaning.specs.declared.bindings.ScopeColumn.{ScopeColumn}
@@ -149,18 +150,10 @@ module _ (f : ScopeColumn → Bool) (keys : List ℕ) where
     itself : (p == p) ≡ true
     itself = (Decides-eqb p p).1 refl
 
-    or_true : (b : Bool) → b || true ≡ true
-    or_true true = refl
-    or_true false = refl
-
-    or_false : (b : Bool) → b || false ≡ b
-    or_false true = refl
-    or_false false = refl
-
     -- the key itself: no later one is kept
     own_key : (earlier qs : List ℕ) → Rest (earlier ++ p ∷ []) qs → More earlier qs p c
     own_key earlier qs rest =
-        let last : is_in (earlier ++ p ∷ []) p ≡ true = list_any-append (λ q. q == p) earlier (p ∷ []) ∙ (ap (λ b. is_in earlier p || (b || false)) itself ∙ or_true (is_in earlier p)) in
+        let last : is_in (earlier ++ p ∷ []) p ≡ true = list_any-append (λ q. q == p) earlier (p ∷ []) ∙ (ap (λ b. is_in earlier p || (b || false)) itself ∙ or-true (is_in earlier p)) in
         let none : filter f (rest_at (earlier ++ p ∷ []) qs) ≡ [] = rest ∙ ap (λ b. kept_if (not b && is_in qs p) c) last in
         rw itself (by (is_in earlier p) (rest_at (earlier ++ p ∷ []) qs) none)
       where
@@ -171,7 +164,7 @@ module _ (f : ScopeColumn → Bool) (keys : List ℕ) where
     -- another one, whose column doesn't pass
     other_key : (earlier qs : List ℕ) (q : ℕ) (x : ScopeColumn) → (q == p) ≡ false → f x ≡ false → Rest (earlier ++ q ∷ []) qs → More earlier qs q x
     other_key earlier qs q x apart not_x rest =
-        let same : is_in (earlier ++ q ∷ []) p ≡ is_in earlier p = list_any-append (λ z. z == p) earlier (q ∷ []) ∙ (ap (λ b. is_in earlier p || (b || false)) apart ∙ or_false (is_in earlier p)) in
+        let same : is_in (earlier ++ q ∷ []) p ≡ is_in earlier p = list_any-append (λ z. z == p) earlier (q ∷ []) ∙ (ap (λ b. is_in earlier p || (b || false)) apart ∙ or-false (is_in earlier p)) in
         let kept : filter f (rest_at (earlier ++ q ∷ []) qs) ≡ kept_if (not (is_in earlier p) && is_in qs p) c = rest ∙ ap (λ b. kept_if (not b && is_in qs p) c) same in
         rw apart (by (not (is_in earlier q)) (rest_at (earlier ++ q ∷ []) qs) ∙ kept)
       where
