@@ -1,4 +1,3 @@
-pub mod Collecting
 pub mod Laying
 pub mod Places
 pub mod Names

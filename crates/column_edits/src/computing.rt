@@ -90,7 +90,7 @@ fn formula_value(alloc: Global, how: &InRow, row: &Row) -> Result<Marked, EvalFa
     Ok(Marked { value, marked })
 }
 
-#[tactic(auto, using(crate::proofs::Collecting::collecting))]
+#[tactic(auto, using(relations::proofs::Collecting::collecting))]
 fn formula_values(alloc: Global, how: &InRow, rows: &[Row]) -> Result<MarkedValues, EvalFault>
     ensures { Gives result (collect (value_by how.now) rows.now) }
 {

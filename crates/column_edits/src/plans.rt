@@ -170,7 +170,7 @@ pub(crate) fn moving(
     Ok(put(alloc, at, column, rest)?)
 }
 
-#[tactic(auto, using(crate::proofs::Collecting::collecting))]
+#[tactic(auto, using(relations::proofs::Collecting::collecting))]
 fn find_all(alloc: Global, names: &[Name], layout: &[LaidColumn]) -> Result<Layout, EvalFault>
     ensures { Gives result (spec.find_all names.now layout.now) }
 {

@@ -1,6 +1,5 @@
 pub mod Places
 pub mod Comparing
-pub mod Looping
 pub mod KeyOrder
 pub mod Cuts
 pub mod Natural

@@ -29,7 +29,7 @@ fn group_column(_alloc: Global, types: &TypedSetting, item: &Item) -> Result<Sco
 }
 
 /// The output columns, or the first error of types.
-#[tactic(auto, using(crate::proofs::Looping::collecting))]
+#[tactic(auto, using(relations::proofs::Collecting::collecting))]
 pub fn group_columns(
     alloc: Global,
     types: &TypedSetting,

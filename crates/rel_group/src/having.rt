@@ -102,7 +102,7 @@ fn tested(alloc: Global, having: Option<&Expr>, lot: Lot, job: &Job) -> Result<T
 }
 
 /// Each lot with what HAVING says of it, or the first error.
-#[tactic(auto, using(crate::proofs::Looping::collecting))]
+#[tactic(auto, using(relations::proofs::Collecting::collecting))]
 pub fn all_tested(
     alloc: Global,
     having: Option<&Expr>,

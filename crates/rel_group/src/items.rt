@@ -25,7 +25,7 @@ fn group_value(alloc: Global, item: &Item, setting: &Setting) -> Result<Marked, 
     Ok(value)
 }
 
-#[tactic(auto, using(crate::proofs::Looping::collecting))]
+#[tactic(auto, using(relations::proofs::Collecting::collecting))]
 fn group_values(alloc: Global, items: &[Item], setting: &Setting) -> Result<MarkedValues, EvalFault>
     ensures { Gives result (items_in setting.now items.now) }
 {

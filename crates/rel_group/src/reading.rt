@@ -86,7 +86,7 @@ fn over_column(
 {
     let rows = job.rel.rows().as_slice();
     let width = job.rel.columns().len();
-    match job.column_places.place_of(of) {
+    match job.column_places.column_place(of) {
         None => Ok(None),
         Some(place) => match read_operands(alloc, width, place, rows, lot.rows.as_slice())? {
             None => Ok(None),
@@ -148,7 +148,7 @@ fn read_value(
 }
 
 /// The values of the items of a group, or none where one of them needs the rows bound. The columns of the key are bound in `row`.
-#[tactic(auto, using(crate::proofs::Looping::collecting))]
+#[tactic(auto, using(relations::proofs::Collecting::collecting))]
 pub fn read_values(
     alloc: Global,
     items: &[Item],

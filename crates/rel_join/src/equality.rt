@@ -35,7 +35,7 @@ fn equality_by(
     match op {
         BinaryOp::Equal => {
             let places = ColumnPlaces::new(alloc, columns)?;
-            match (places.place_of(first), places.place_of(second)) {
+            match (places.column_place(first), places.column_place(second)) {
                 (Some(first), Some(second)) => Ok(Some(Equality { first, second })),
                 _ => Ok(None),
             }

@@ -1,4 +1,3 @@
-pub mod Collecting
 pub mod Lists
 pub mod Stable
 pub mod Ranks

@@ -44,7 +44,7 @@ fn item_column(alloc: Global, columns: &Scope, item: &Item) -> Result<ScopeColum
 }
 
 /// The output columns, or the first error of types.
-#[tactic(auto, using(crate::proofs::Collecting::collecting))]
+#[tactic(auto, using(relations::proofs::Collecting::collecting))]
 fn item_columns(alloc: Global, columns: &Scope, items: &[Item]) -> Result<Scope, EvalFault>
     ensures { Gives result (spec.item_columns columns.now items.now) }
 {
@@ -69,7 +69,7 @@ fn value_of(
     Ok(value)
 }
 
-#[tactic(auto, using(crate::proofs::Collecting::collecting))]
+#[tactic(auto, using(relations::proofs::Collecting::collecting))]
 fn values_of(
     alloc: Global,
     items: &[Item],

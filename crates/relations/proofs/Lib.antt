@@ -1,8 +1,10 @@
 pub mod Binds
 pub mod Revalued
-pub mod ReadPlaces
 pub mod Loops
+pub mod Collecting
 pub mod Gathered
+pub mod ReadPlaces
+pub mod PlacesWithin
 pub mod Rules
 pub mod KeptRows
 pub mod ByIds

@@ -1,5 +1,5 @@
 -- What a name stands for among columns is the value at the place of its column.
-use Rattle.std.proofs.Common.{◌≡◌, ℕ, ◌+◌, length, Option, Some, None, Ok, Err, List, [], ◌∷◌, ◌++◌, map, arith, refl, ap, sym, ◌∙◌}
+use Rattle.std.proofs.Common.{◌≡◌, ℕ, ◌+◌, length, Option, Some, None, Ok, Err, List, [], ◌∷◌, ◌++◌, map, arith, refl, ap, subst, sym, ◌∙◌}
 use Rattle.std.specs.Prelude.{slice_get}
 use Rattle.std.proofs.lemmas.List.{length-append}
 use Rattle.cell_errors.specs.Answers.{Answer}
@@ -15,7 +15,8 @@ use Rattle.expr_meaning.proofs.Alike.{Each, Both, meant_each}
 use Rattle.expr_meaning.proofs.Readings.{M-Column}
 use Rattle.relations.specs.declared.places.ColumnAt.{ColumnAt}
 use Rattle.relations.specs.Bound.{bindings}
-use Rattle.relations.specs.Places.{placed_from, ReadsPlace}
+use Rattle.relations.specs.Places.{placed_from, find_placed, place_of, ReadsPlace}
+use Rattle.relations.proofs.Gathered.{fine, the_same, then_ok}
 
 -- the columns that were placed
 pub columns_of : (cs : List ScopeColumn) (n : ℕ) → map (λ (p : ColumnAt). p.column) (placed_from n cs) ≡ cs
@@ -68,14 +69,19 @@ module _ (values : List Marked) where
   found_too at m (Err d) b s e here = cc
 
 -- a name that stands for a column reads the value at its place
-pub column_reads : (columns : List ScopeColumn) (q : Option Name) (name : Name) (at : ColumnAt) →
-    meant (λ (p : ColumnAt). p.column.qualifier) (λ (p : ColumnAt). p.column.column.name) q name (placed_from 0 columns) ≡ Ok at → ReadsPlace columns at.place (Column q name)
+column_reads : (columns : List ScopeColumn) (q : Option Name) (name : Name) (at : ColumnAt) → find_placed columns q name ≡ Ok at →
+    ReadsPlace columns at.place (Column q name)
 column_reads columns q name at e values picks cell m fits here =
     M-Column (at_row (bindings columns values)) picks cell q name
     ∙ found_too values at m _ (find (bindings columns values) q name)
     (meant_each ColumnAt Binding (λ p. p.column.qualifier) (λ p. p.column.column.name) (λ b. b.qualifier) (λ b. b.name) (Stands values) (λ p b s. s.0) (λ p b s. s.1)
     q name (placed_from 0 columns) (bindings columns values) (all_stand values columns values [] 0 refl refl fits))
     e here
+
+pub name_reads : (columns : List ScopeColumn) (q : Option Name) (name : Name) (place : ℕ) → place_of columns q name ≡ Ok place → ReadsPlace columns place (Column q name)
+name_reads columns q name place e =
+    let h = then_ok (find_placed columns q name) (λ at. fine at.place) place e in
+    subst (λ p. ReadsPlace columns p (Column q name)) (the_same h.0.place place h.2) (column_reads columns q name h.0 h.1)
 
 -- what the proof of placing uses
 pub ruleset placing = (columns_of)

@@ -1,7 +1,9 @@
-//! The places of columns, for expressions that are a column alone.
-ghost use Rattle.std.specs.Prelude.{◌≡◌, IfOk, IfSome, map};
+//! The places of columns, counted from 0.
+ghost use Rattle.std.specs.Prelude.{◌≡◌, ◌<◌, IfOk, IfSome, length, map};
+ghost use Rattle.relations.specs.Places as spec;
 ghost use Rattle.relations.specs.Places.{ReadsPlace, placed_from};
 
+use cell_errors::CellError;
 use expr_lang::Expr;
 use expr_meaning::{Named, ScopeColumn, meant};
 use std::alloc::Global;
@@ -71,15 +73,25 @@ impl ColumnPlaces {
         Ok(ColumnPlaces { all })
     }
 
-    /// The place, counted from 0, of the column that an expression is, where it is one of these.
-    pub fn place_of(&self, expr: &Expr) -> Option<usize>
-        ensures { IfSome result (λ place. ReadsPlace self.now place expr.now) }
+    /// The place of the column that a name stands for.
+    ///
+    /// - Error: `NoColumn` exactly where there is none, or two of them.
+    pub fn place_of(&self, qualifier: &Option<Name>, name: &Name) -> Result<usize, CellError>
+        ensures value { result ≡ spec.place_of self.now qualifier.now name.now }
+        ensures within { IfOk result (λ place. place < length self.now) }
+    {
+        let found = meant(self.all.as_slice(), qualifier, name)?;
+        Ok(found.place)
+    }
+
+    /// The place of the column that an expression is, where it is one of these.
+    pub fn column_place(&self, expr: &Expr) -> Option<usize>
+        ensures value { result ≡ spec.column_place self.now expr.now }
+        ensures within { IfSome result (λ place. place < length self.now) }
+        ensures reads { IfSome result (λ place. ReadsPlace self.now place expr.now) }
     {
         match expr {
-            Expr::Column { qualifier, name } => match meant(self.all.as_slice(), qualifier, name) {
-                Ok(at) => Some(at.place),
-                Err(_) => None,
-            },
+            Expr::Column { qualifier, name } => self.place_of(qualifier, name).ok(),
             _ => None,
         }
     }

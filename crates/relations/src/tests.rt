@@ -171,20 +171,20 @@ fn a_row_that_is_bound_again_has_its_own_values(rt: HostRuntime) {
     );
 }
 
-fn place_of(rt: &impl Abort, alloc: Global, name: &str) -> Result<Option<usize>, EvalFault> {
+fn column_place(rt: &impl Abort, alloc: Global, name: &str) -> Result<Option<usize>, EvalFault> {
     let rel = sevens(rt, alloc)?;
     let places = ColumnPlaces::new(alloc, rel.columns().as_slice())?;
     let qualifier = Some(named("t")?);
     let name = named(name)?;
-    Ok(places.place_of(&Expr::Column { qualifier, name }))
+    Ok(places.column_place(&Expr::Column { qualifier, name }))
 }
 
 #[test]
 fn a_column_is_found_at_its_place(rt: HostRuntime) {
     let alloc = rt.alloc();
-    let there = place_of(&rt, alloc, "a").expect(&rt, "memory");
+    let there = column_place(&rt, alloc, "a").expect(&rt, "memory");
     assert_eq!(rt; there, Some(0));
-    let missing = place_of(&rt, alloc, "b").expect(&rt, "memory");
+    let missing = column_place(&rt, alloc, "b").expect(&rt, "memory");
     assert_eq!(rt; missing, None);
 }
 

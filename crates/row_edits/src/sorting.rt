@@ -25,7 +25,7 @@ fn sort_key(columns: &[Column], by: &SortName) -> Result<SortKey, EvalFault>
     })
 }
 
-#[tactic(auto, using(rel_ops::proofs::Collecting::collecting))]
+#[tactic(auto, using(relations::proofs::Collecting::collecting))]
 fn sort_keys(alloc: Global, columns: &[Column], by: &[SortName]) -> Result<SortKeys, EvalFault>
     requires { length columns.now ≤ 32 }
     ensures { Gives result (spec.sort_keys columns.now by.now) }

@@ -12,7 +12,7 @@ use Rattle.cell_errors.specs.declared.fault.CellError.{CellError}
 use Rattle.cell_model.specs.Reading.{Answers}
 use Rattle.cell_model.specs.Works.{Fixes}
 use Rattle.cell_model.proofs.WorkLemmas.{entry, asked_new, asked_once}
-use Rattle.rel_ops.proofs.Collecting.{rest_of, begun, went_on_at, ended_at, stopped}
+use Rattle.relations.proofs.Collecting.{rest_of, begun, went_on_at, ended_at, stopped}
 use Rattle.sql_meaning.specs.declared.source.Source.{Source}
 use Rattle.sql_meaning.specs.Sources.{source_if, source_in, sources_in, unless_absent, names_read}
 use Rattle.sql_meaning.proofs.Joinable.{not_before}

@@ -84,7 +84,7 @@ fn core_rel(alloc: Global, job: &Job, core: &CorePlan) -> Result<Rel, EvalFault>
 }
 
 /// The steps of each core, or the first error.
-#[tactic(auto, using(rel_ops::proofs::Collecting::collecting))]
+#[tactic(auto, using(relations::proofs::Collecting::collecting))]
 pub(crate) fn core_rels(
     alloc: Global,
     job: &Job,

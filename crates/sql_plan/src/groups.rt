@@ -17,7 +17,7 @@ fn key_place(places: &[ColumnAt], key: &ColumnName) -> Result<u32, EvalFault>
     Ok(place_among(places, &key.qualifier, &key.name)?)
 }
 
-#[tactic(auto, using(rel_ops::proofs::Collecting::collecting))]
+#[tactic(auto, using(relations::proofs::Collecting::collecting))]
 fn keys_among(
     alloc: Global,
     places: &[ColumnAt],

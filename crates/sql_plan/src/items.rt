@@ -120,7 +120,7 @@ fn output_of(setting: &TypedSetting, item: &Item) -> Result<ScopeColumn, EvalFau
 /// The columns of the items.
 ///
 /// - Error: the first of their types.
-#[tactic(auto, using(rel_ops::proofs::Collecting::collecting))]
+#[tactic(auto, using(relations::proofs::Collecting::collecting))]
 pub(crate) fn outputs_of(
     alloc: Global,
     setting: &TypedSetting,

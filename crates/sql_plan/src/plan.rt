@@ -22,7 +22,7 @@ pub struct Plan {
     pub order: SortKeys,
 }
 
-#[tactic(auto, using(rel_ops::proofs::Collecting::collecting))]
+#[tactic(auto, using(relations::proofs::Collecting::collecting))]
 fn cores_checked(
     alloc: Global,
     headings: &[Heading],
@@ -75,7 +75,7 @@ fn key_checked(places: &[ColumnAt], key: &OrderKey) -> Result<SortKey, EvalFault
     })
 }
 
-#[tactic(auto, using(rel_ops::proofs::Collecting::collecting))]
+#[tactic(auto, using(relations::proofs::Collecting::collecting))]
 fn keys_among(alloc: Global, places: &[ColumnAt], keys: &[OrderKey]) -> Result<SortKeys, EvalFault>
     ensures { Gives result (spec.keys_among places.now keys.now) }
 {

@@ -1,6 +1,6 @@
 use Rattle.std.proofs.lemmas.Result.{err_from_is_err_and}
 use Rattle.column_edits.specs.Filling.{value_by}
-use Rattle.column_edits.proofs.Collecting.{stops_at}
+use Rattle.relations.proofs.Collecting.{stops_at}
 use Rattle.column_edits.proofs.computing.formula_values.Goals as goal
 
 pub returns-in_err-value : goal.returns-in_err-value

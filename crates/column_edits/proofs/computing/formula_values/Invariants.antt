@@ -1,7 +1,7 @@
 use Rattle.std.proofs.Common.{◌≡◌, drop}
 use Rattle.cell_errors.specs.Answers.{collect}
 use Rattle.column_edits.specs.Filling.{value_by}
-use Rattle.column_edits.proofs.Collecting.{rest_of}
+use Rattle.relations.proofs.Collecting.{rest_of}
 use Rattle.column_edits.proofs.computing.formula_values.Given as goal
 
 abbrev pub invariant-loop-row : goal.invariant-loop-row

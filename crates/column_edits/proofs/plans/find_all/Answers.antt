@@ -1,7 +1,7 @@
 use Rattle.std.proofs.Common.{◌∙◌}
 use Rattle.std.proofs.lemmas.Result.{err_from_is_err_and}
 use Rattle.column_edits.specs.Plans.{find}
-use Rattle.column_edits.proofs.Collecting.{went_on_at, stops_at}
+use Rattle.relations.proofs.Collecting.{went_on_at, stops_at}
 use Rattle.column_edits.proofs.plans.find_all.Goals as goal
 
 pub returns-in_err-column : goal.returns-in_err-column

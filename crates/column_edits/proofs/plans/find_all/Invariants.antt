@@ -1,6 +1,6 @@
 use Rattle.std.proofs.Common.{◌≡◌, drop}
 use Rattle.column_edits.specs.Plans.{find, find_all}
-use Rattle.column_edits.proofs.Collecting.{rest_of}
+use Rattle.relations.proofs.Collecting.{rest_of}
 use Rattle.column_edits.proofs.plans.find_all.Given as goal
 
 abbrev pub invariant-loop-name : goal.invariant-loop-name

@@ -1,6 +1,6 @@
 use Rattle.std.proofs.lemmas.Result.{err_from_is_err_and}
 use Rattle.expr_meaning.specs.Calls.{type_setting}
-use Rattle.rel_ops.proofs.Collecting.{stops_at}
+use Rattle.relations.proofs.Collecting.{stops_at}
 use Rattle.rel_group.specs.Group.{group_column}
 use Rattle.rel_group.proofs.columns.group_columns.Goals as goal
 

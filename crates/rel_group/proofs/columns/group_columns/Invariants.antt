@@ -1,6 +1,6 @@
 use Rattle.std.proofs.Common.{◌≡◌, drop}
 use Rattle.expr_meaning.specs.Calls.{type_setting}
-use Rattle.rel_ops.proofs.Collecting.{rest_of}
+use Rattle.relations.proofs.Collecting.{rest_of}
 use Rattle.rel_group.specs.Group.{group_column, group_columns}
 use Rattle.rel_group.proofs.columns.group_columns.Given as goal
 

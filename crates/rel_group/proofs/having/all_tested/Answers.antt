@@ -3,7 +3,7 @@ use Rattle.std.proofs.lemmas.Grind.{common_steps}
 use Rattle.std.specs.Option.{option_copied}
 use Rattle.std.specs.Vec.Iter.{into_iter_items}
 use Rattle.std.proofs.lemmas.Result.{err_from_is_err_and}
-use Rattle.rel_ops.proofs.Collecting.{stops, ended}
+use Rattle.relations.proofs.Collecting.{stops, ended}
 use Rattle.rel_group.specs.Calls.{tested_in}
 use Rattle.rel_group.proofs.having.all_tested.Goals as goal
 

@@ -2,7 +2,7 @@ use Rattle.std.proofs.Common.{◌≡◌}
 use Rattle.std.specs.Option.{option_copied}
 use Rattle.std.specs.Vec.Iter.{into_iter_items}
 use Rattle.cell_errors.specs.Answers.{collect}
-use Rattle.rel_ops.proofs.Collecting.{rest_of}
+use Rattle.relations.proofs.Collecting.{rest_of}
 use Rattle.rel_group.specs.Calls.{tested_in}
 use Rattle.rel_group.proofs.having.all_tested.Given as goal
 

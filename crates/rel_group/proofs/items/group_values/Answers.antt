@@ -1,5 +1,5 @@
 use Rattle.std.proofs.lemmas.Result.{err_from_is_err_and}
-use Rattle.rel_ops.proofs.Collecting.{stops_at}
+use Rattle.relations.proofs.Collecting.{stops_at}
 use Rattle.rel_group.specs.Calls.{item_in}
 use Rattle.rel_group.proofs.items.group_values.Goals as goal
 

@@ -11,7 +11,7 @@ pub returns-in_err-aggregated-in-Some-2 : goal.returns-in_err-aggregated-in-Some
 returns-in_err-aggregated-in-Some-2 c =
     let job = c.args.job.now in
     let g = c.args.lot.now in
-    let reads : ReadsPlace job.rel.now.columns c.in-Some.place c.args.of.now = rw c.requires.places at c.in-Some.ensures in
+    let reads : ReadsPlace job.rel.now.columns c.in-Some.place c.args.of.now = rw c.requires.places at c.in-Some.ensures.reads in
     let values : operands_at (length job.rel.now.columns) c.in-Some.place (rows_by job.rel.now.rows g.rows) ≡ Some c.in-Some-2.all = grind (arith, common_steps) in
     let p = err_from_is_err_and c.from_residual-in_err-aggregated-in-Some-2.result c.from_residual-in_err-aggregated-in-Some-2.ensures.1 in
     rw (p.1, p.2) (over_fails job c.args.op c.in-Some-2.all c.in_err-aggregated-in-Some-2.field-0.0 _
@@ -21,7 +21,7 @@ pub returns-in_ok-aggregated-in-Some-2 : goal.returns-in_ok-aggregated-in-Some-2
 returns-in_ok-aggregated-in-Some-2 c =
     let job = c.args.job.now in
     let g = c.args.lot.now in
-    let reads : ReadsPlace job.rel.now.columns c.in-Some.place c.args.of.now = rw c.requires.places at c.in-Some.ensures in
+    let reads : ReadsPlace job.rel.now.columns c.in-Some.place c.args.of.now = rw c.requires.places at c.in-Some.ensures.reads in
     let values : operands_at (length job.rel.now.columns) c.in-Some.place (rows_by job.rel.now.rows g.rows) ≡ Some c.in-Some-2.all = grind (arith, common_steps) in
     over_reads job g c.args.op c.args.of.now c.in-Some.place c.in-Some-2.all reads values
     ∙ ap (λ a. marked_value (record { marked = job.uncertain || c.in-Some-2.all.marked; answer = a })) c.in_ok-aggregated-in-Some-2.ensures

@@ -1,5 +1,5 @@
 use Rattle.std.proofs.Common.{◌≡◌, drop}
-use Rattle.rel_ops.proofs.Collecting.{rest_of}
+use Rattle.relations.proofs.Collecting.{rest_of}
 use Rattle.rel_group.specs.Calls.{bound_in, item_at, values_in}
 use Rattle.rel_group.proofs.reading.read_values.Given as goal
 

@@ -1,6 +1,6 @@
 use Rattle.std.proofs.lemmas.Result.{err_from_is_err_and}
 use Rattle.rel_ops.specs.Project.{item_column}
-use Rattle.rel_ops.proofs.Collecting.{stops_at}
+use Rattle.relations.proofs.Collecting.{stops_at}
 use Rattle.rel_ops.proofs.projecting.item_columns.Goals as goal
 
 pub returns-in_err-column : goal.returns-in_err-column

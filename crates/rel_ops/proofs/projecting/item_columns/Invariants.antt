@@ -1,6 +1,6 @@
 use Rattle.std.proofs.Common.{◌≡◌, drop}
 use Rattle.rel_ops.specs.Project.{item_column, item_columns}
-use Rattle.rel_ops.proofs.Collecting.{rest_of}
+use Rattle.relations.proofs.Collecting.{rest_of}
 use Rattle.rel_ops.proofs.projecting.item_columns.Given as goal
 
 abbrev pub invariant-loop-item : goal.invariant-loop-item

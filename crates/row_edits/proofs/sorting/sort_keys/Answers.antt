@@ -1,5 +1,5 @@
 use Rattle.std.proofs.lemmas.Result.{err_from_is_err_and}
-use Rattle.rel_ops.proofs.Collecting.{stops_at}
+use Rattle.relations.proofs.Collecting.{stops_at}
 use Rattle.row_edits.specs.Sort.{sort_key}
 use Rattle.row_edits.proofs.sorting.sort_keys.Goals as goal
 

@@ -1,5 +1,5 @@
 use Rattle.std.proofs.Common.{◌≡◌, drop}
-use Rattle.rel_ops.proofs.Collecting.{rest_of}
+use Rattle.relations.proofs.Collecting.{rest_of}
 use Rattle.row_edits.specs.Sort.{sort_key, sort_keys}
 use Rattle.row_edits.proofs.sorting.sort_keys.Given as goal
 

@@ -1,5 +1,5 @@
 use Rattle.std.proofs.lemmas.Result.{err_from_is_err_and}
-use Rattle.rel_ops.proofs.Collecting.{stops_at}
+use Rattle.relations.proofs.Collecting.{stops_at}
 use Rattle.sql_meaning.specs.Steps.{core_rel}
 use Rattle.sql_meaning.specs.Calls.{steps_of, tables_of, headings_at}
 use Rattle.sql_meaning.proofs.Joinable.{planned_at}

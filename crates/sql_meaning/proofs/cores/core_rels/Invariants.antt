@@ -1,6 +1,6 @@
 use Rattle.std.proofs.Common.{◌≡◌, drop}
 use Rattle.cell_errors.specs.Answers.{collect}
-use Rattle.rel_ops.proofs.Collecting.{rest_of}
+use Rattle.relations.proofs.Collecting.{rest_of}
 use Rattle.sql_meaning.specs.Steps.{core_rel}
 use Rattle.sql_meaning.specs.Calls.{steps_of, tables_of}
 use Rattle.sql_meaning.proofs.cores.core_rels.Given as goal

@@ -1,5 +1,5 @@
 use Rattle.std.proofs.lemmas.Result.{err_from_is_err_and}
-use Rattle.rel_ops.proofs.Collecting.{stops_at}
+use Rattle.relations.proofs.Collecting.{stops_at}
 use Rattle.sql_plan.specs.Groups.{key_place}
 use Rattle.sql_plan.proofs.groups.keys_among.Goals as goal
 

@@ -1,5 +1,5 @@
 use Rattle.std.proofs.Common.{◌≡◌, drop}
-use Rattle.rel_ops.proofs.Collecting.{rest_of}
+use Rattle.relations.proofs.Collecting.{rest_of}
 use Rattle.sql_plan.specs.Groups.{key_place, keys_among}
 use Rattle.sql_plan.proofs.groups.keys_among.Given as goal
 

@@ -1,5 +1,5 @@
 use Rattle.std.proofs.lemmas.Result.{err_from_is_err_and}
-use Rattle.rel_ops.proofs.Collecting.{stops_at}
+use Rattle.relations.proofs.Collecting.{stops_at}
 use Rattle.expr_meaning.specs.Calls.{type_setting}
 use Rattle.sql_plan.specs.Items.{output_of}
 use Rattle.sql_plan.proofs.items.outputs_of.Goals as goal

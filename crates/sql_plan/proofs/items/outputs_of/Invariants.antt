@@ -1,5 +1,5 @@
 use Rattle.std.proofs.Common.{◌≡◌, drop}
-use Rattle.rel_ops.proofs.Collecting.{rest_of}
+use Rattle.relations.proofs.Collecting.{rest_of}
 use Rattle.expr_meaning.specs.Calls.{type_setting}
 use Rattle.sql_plan.specs.Items.{output_of, outputs_of}
 use Rattle.sql_plan.proofs.items.outputs_of.Given as goal

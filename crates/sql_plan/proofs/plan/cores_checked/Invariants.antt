@@ -1,5 +1,5 @@
 use Rattle.std.proofs.Common.{◌≡◌, drop}
-use Rattle.rel_ops.proofs.Collecting.{rest_of}
+use Rattle.relations.proofs.Collecting.{rest_of}
 use Rattle.sql_plan.specs.Cores.{core_checked}
 use Rattle.sql_plan.specs.Plan.{cores_checked}
 use Rattle.sql_plan.proofs.plan.cores_checked.Given as goal
