@@ -1,5 +1,5 @@
 -- The place of a column that a name stands for is one of the columns' places.
-use Rattle.std.proofs.Common.{◌≡◌, ℕ, ◌+◌, ◌<◌, ◌≤◌, Bool, true, false, Option, Some, None, Ok, List, [], ◌∷◌, length, subst, ap, arith}
+use Rattle.std.proofs.Common.{◌≡◌, ℕ, ◌+◌, ◌<◌, ◌≤◌, Bool, true, false, Option, Some, None, Ok, List, [], ◌∷◌, length, refl, subst, ap, ◌∙◌, arith}
 use Rattle.std.specs.Prelude.{filter}
 use Rattle.cell_errors.specs.Answers.{and_then}
 use Rattle.expr_meaning.specs.declared.bindings.ScopeColumn.{ScopeColumn}
@@ -47,15 +47,18 @@ module _ {X : Type 0} (q : X → Option Name) (n : X → Name) (P : X → Type 0
   meant_has (Some r) name xs x e k = written_has (Some r) name xs x e k
 
 -- a place is below these many
-IsBelow : ℕ → ColumnAt → Type 0
+abbrev IsBelow : ℕ → ColumnAt → Type 0
 IsBelow n at = at.place < n
 
 placed_below : (n : ℕ) (cs : List ScopeColumn) (end : ℕ) → n + length cs ≤ end → Each (IsBelow end) (placed_from n cs)
 placed_below n [] end h = tt
 placed_below n (c ∷ cs) end h = (omega (arith, h), placed_below (n + 1) cs end (omega (arith, h)))
 
+pub found_within : (columns : List ScopeColumn) (q : Option Name) (name : Name) (at : ColumnAt) → find_placed columns q name ≡ Ok at → at.place < length columns
+found_within columns q name at e =
+    meant_has (λ p. p.column.qualifier) (λ p. p.column.column.name) (IsBelow (length columns)) q name (placed_from 0 columns) at (placed_below 0 columns (length columns) (omega arith)) e
+
 pub place_within : (columns : List ScopeColumn) (q : Option Name) (name : Name) (place : ℕ) → place_of columns q name ≡ Ok place → place < length columns
 place_within columns q name place e =
     let h = then_ok (find_placed columns q name) (λ at. fine at.place) place e in
-    subst (λ p. p < length columns) (the_same h.0.place place h.2)
-    (meant_has (λ at. at.column.qualifier) (λ at. at.column.column.name) (IsBelow (length columns)) q name (placed_from 0 columns) h.0 (placed_below 0 columns (length columns) (omega arith)) h.1)
+    subst (λ p. p < length columns) (the_same h.0.place place h.2) (found_within columns q name h.0 h.1)

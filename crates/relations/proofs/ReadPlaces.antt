@@ -1,8 +1,10 @@
 -- What a name stands for among columns is the value at the place of its column.
 use Rattle.std.proofs.Common.{◌≡◌, ℕ, ◌+◌, length, Option, Some, None, Ok, Err, List, [], ◌∷◌, ◌++◌, map, arith, refl, ap, subst, sym, ◌∙◌}
-use Rattle.std.specs.Prelude.{slice_get}
+use Rattle.std.specs.Prelude.{slice_get, IfSome, Result}
+use Rattle.std.specs.Result.{result_ok}
 use Rattle.std.proofs.lemmas.List.{length-append}
 use Rattle.cell_errors.specs.Answers.{Answer}
+use Rattle.cell_errors.specs.declared.fault.CellError.{CellError}
 use Rattle.dataset_types.specs.declared.row.Marked.{Marked}
 use Rattle.expr_lang.specs.declared.expr.Expr.{Column}
 use Rattle.expr_meaning.specs.declared.bindings.Binding.{Binding}
@@ -78,10 +80,16 @@ column_reads columns q name at e values picks cell m fits here =
     q name (placed_from 0 columns) (bindings columns values) (all_stand values columns values [] 0 refl refl fits))
     e here
 
-pub name_reads : (columns : List ScopeColumn) (q : Option Name) (name : Name) (place : ℕ) → place_of columns q name ≡ Ok place → ReadsPlace columns place (Column q name)
+name_reads : (columns : List ScopeColumn) (q : Option Name) (name : Name) (place : ℕ) → place_of columns q name ≡ Ok place → ReadsPlace columns place (Column q name)
 name_reads columns q name place e =
     let h = then_ok (find_placed columns q name) (λ at. fine at.place) place e in
     subst (λ p. ReadsPlace columns p (Column q name)) (the_same h.0.place place h.2) (column_reads columns q name h.0 h.1)
+
+-- the same, where a place was found or not
+pub found_reads : (columns : List ScopeColumn) (q : Option Name) (name : Name) (found : Result ℕ CellError) → found ≡ place_of columns q name →
+    IfSome (result_ok found) (λ place. ReadsPlace columns place (Column q name))
+found_reads columns q name (Ok place) e = name_reads columns q name place (sym e)
+found_reads columns q name (Err d) e = tt
 
 -- what the proof of placing uses
 pub ruleset placing = (columns_of)
