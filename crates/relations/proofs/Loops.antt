@@ -1,5 +1,5 @@
 -- A loop over a step that is `gathered`: what has come so far, and then the rest.
-use Rattle.std.proofs.Common.{◌≡◌, ℕ, ◌+◌, ◌<◌, ◌≤◌, length, drop, get_or, Bool, true, false, ◌||◌, Ok, Err, List, [], ◌∷◌, refl, ap, sym, ◌∙◌, append_assoc, append-nil}
+use Rattle.std.proofs.Common.{◌≡◌, ℕ, ◌+◌, ◌<◌, ◌≤◌, length, drop, get_or, Ok, Err, List, [], ◌∷◌, refl, ap, sym, ◌∙◌, append_assoc, append-nil}
 use Rattle.std.proofs.lemmas.List.{drop_more, drop_all}
 use Rattle.std.proofs.Math.Bool.{or-false, or_assoc}
 use Rattle.cell_errors.specs.Answers.{Answer, and_then, Fails}

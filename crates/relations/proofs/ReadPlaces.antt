@@ -9,7 +9,7 @@ use Rattle.dataset_types.specs.declared.row.Marked.{Marked}
 use Rattle.expr_lang.specs.declared.expr.Expr.{Column}
 use Rattle.expr_meaning.specs.declared.bindings.Binding.{Binding}
 use Rattle.expr_meaning.specs.declared.bindings.ScopeColumn.{ScopeColumn}
-use Rattle.expr_meaning.specs.Names.{Name, meant}
+use Rattle.expr_meaning.specs.Names.{Name}
 use Rattle.expr_meaning.specs.Settings.{at_row}
 use Rattle.expr_meaning.specs.Meaning.{seen_of, find}
 use Rattle.expr_meaning.specs.Sees.{seen}

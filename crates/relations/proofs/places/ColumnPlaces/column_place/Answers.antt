@@ -1,5 +1,3 @@
-use Rattle.std.specs.Prelude.{IfSome}
-use Rattle.relations.specs.Places.{ReadsPlace}
 use Rattle.relations.proofs.ReadPlaces.{found_reads}
 use Rattle.relations.proofs.places.ColumnPlaces.column_place.Goals as goal
 
