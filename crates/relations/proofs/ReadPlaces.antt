@@ -93,3 +93,6 @@ found_reads columns q name (Err d) e = tt
 
 -- what the proof of placing uses
 pub ruleset placing = (columns_of)
+
+-- what the proof of a column's place uses
+pub ruleset reading = (found_reads)

@@ -85,6 +85,7 @@ impl ColumnPlaces {
     }
 
     /// The place of the column that an expression is, where it is one of these.
+    #[tactic(auto, using(crate::proofs::ReadPlaces::reading))]
     pub fn column_place(&self, expr: &Expr) -> Option<usize>
         ensures value { result ≡ spec.column_place self.now expr.now }
         ensures within { IfSome result (λ place. place < length self.now) }
