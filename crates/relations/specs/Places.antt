@@ -38,5 +38,5 @@ column_place columns e = form_place columns (out-Expr e)
 -- the expression is the value at the place, over any values of these columns
 abbrev pub ReadsPlace : List ScopeColumn → ℕ → Expr → Type 0
 ReadsPlace columns place e =
-    (values : List Marked) (picks : List Pick) (cell : ℕ) (m : Marked) → length values ≡ length columns → slice_get values place ≡ Some m →
-    marked_over_row (bindings columns values) picks cell e ≡ seen m
+    (values : List Marked) (picks : List Pick) (cell : ℕ) (m : Marked) →
+    length values ≡ length columns → slice_get values place ≡ Some m → marked_over_row (bindings columns values) picks cell e ≡ seen m

@@ -65,8 +65,7 @@ fn put_values(alloc: Global, row: &mut Vec<Binding>, values: &[Marked]) -> Resul
     Ok(())
 }
 
-/// The bindings of a row become those of another row of the same columns. The names stay where there are as many values; after
-/// `NoMemory` the old bindings are there, or none.
+/// The bindings of a row become those of another row of the same columns. Where it has as many values, no name is written again.
 #[tactic(auto, using(crate::proofs::Revalued::again))]
 pub fn bind_again(
     alloc: Global,

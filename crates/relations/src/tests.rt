@@ -104,6 +104,7 @@ fn a_dataset_is_a_relation_under_its_qualifier(rt: HostRuntime) {
     assert!(rt; rel.is_loose() && !rel.is_open());
     assert_eq!(rt; rel.rows().len(), 1);
     let columns = rel.columns().as_slice();
+    assert_eq!(rt; columns.len(), 1);
     assert!(rt; columns.iter().all(|column| column.qualifier.is_some()));
 }
 
@@ -111,6 +112,7 @@ fn a_dataset_is_a_relation_under_its_qualifier(rt: HostRuntime) {
 fn a_row_is_bound_and_tested(rt: HostRuntime) {
     let alloc = rt.alloc();
     let row = bound(&rt, alloc).expect(&rt, "memory");
+    assert_eq!(rt; row.len(), 1);
     assert!(rt; row.as_slice().iter().all(|binding| binding.value.marked));
     let test = tested(&rt, alloc).expect(&rt, "memory");
     assert!(rt; test.holds && !test.marked);
