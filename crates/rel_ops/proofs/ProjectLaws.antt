@@ -13,6 +13,7 @@ use Rattle.caveat_marks.specs.Shown.{ShownRow, shown_row, shown_value}
 use Rattle.expr_meaning.specs.declared.bindings.ScopeColumn.{ScopeColumn}
 use Rattle.expr_meaning.specs.Known.{known, unless_marked}
 use Rattle.expr_meaning.specs.Meaning.{marked_over_row, known_over_row}
+use Rattle.expr_meaning.specs.Types.{over_columns}
 use Rattle.relations.specs.declared.batch.Batch.{Batch}
 use Rattle.relations.specs.declared.parts.Item.{Item}
 use Rattle.relations.specs.Rels.{rel_of, whole}
@@ -68,7 +69,7 @@ module _ (columns : List ScopeColumn) (items : List Item) (picks : List Pick) (c
       at (Err e) = refl
 
 pub project_erases : (items : List Item) → ProjectErases items
-project_erases items picks cell rel = at (item_columns rel.columns items)
+project_erases items picks cell rel = at (item_columns (over_columns rel.columns) items)
   where
     to : (columns : List ScopeColumn) → result_map_both erased_rel (λ e. e) (projected_to columns rel items picks cell)
         ≡ and_then (listed (plain_item rel.columns items picks cell) (map erased_row rel.rows)) (λ rows. plain_whole (record { columns = columns; rows = rows }))
@@ -133,13 +134,13 @@ module _ (columns : List ScopeColumn) (items : List Item) (picks : List Pick) (c
 pub project_shows : (items : List Item) → ProjectShows items
 project_shows items picks cell rel out is e =
     let step = item_row rel.columns items picks cell in
-    let c = then_ok (item_columns rel.columns items) (λ columns. projected_to columns rel items picks cell) out e in
+    let c = then_ok (item_columns (over_columns rel.columns) items) (λ columns. projected_to columns rel items picks cell) out e in
     let p = then_ok (gathered step rel.rows) (λ b. whole (rel_of c.0 b.rows rel.is_open rel.is_loose)) out c.2 in
     let s = all_shown rel.is_open step show_row (λ s. shown_item rel.columns items s ∷ []) (λ s. false) (UnsureOpens rel.is_open)
     (one_shows rel.columns items picks cell rel.is_open) rel.rows p.0 (unsure_opens rel.is_open rel.rows is.rules.sure) p.1 in
     let rows : sure_rows p.0.rows ≡ map (shown_item rel.columns items) (sure_rows rel.rows) =
     s.0 ∙ (ap (flat_map (λ s. shown_item rel.columns items s ∷ [])) (sym (sure_is rel.rows)) ∙ flat_map_one (shown_item rel.columns items) (sure_rows rel.rows)) in
-    let columns : c.0 ≡ columns_in (item_columns rel.columns items) = ap columns_in (sym c.1) in
+    let columns : c.0 ≡ columns_in (item_columns (over_columns rel.columns) items) = ap columns_in (sym c.1) in
     subst (λ z. SameShown (shown_rel z) (shown_projected (shown_rel rel) items)) (whole_ok _ out p.2)
     (same_from (shown_rel (rel_of c.0 p.0.rows rel.is_open rel.is_loose)) (shown_projected (shown_rel rel) items)
     (λ i. record { columns = columns i; rows = rows i; is_open = rel.is_open; is_loose = rel.is_loose }))

@@ -18,7 +18,7 @@ use Rattle.expr_meaning.specs.Known.{Known}
 use Rattle.expr_meaning.specs.Names.{Name}
 use Rattle.expr_meaning.specs.Settings.{PlainBinding}
 use Rattle.expr_meaning.specs.Meaning.{marked_over_row, plain_over_row, known_over_row}
-use Rattle.expr_meaning.specs.Types.{type_over}
+use Rattle.expr_meaning.specs.Types.{TypeSetting, type_at, over_columns}
 use Rattle.relations.specs.declared.batch.Batch.{Batch}
 use Rattle.relations.specs.declared.parts.Item.{Item}
 use Rattle.relations.specs.Rels.{RelData, rel_of, whole}
@@ -40,13 +40,13 @@ kind_of (Of k) = k
 abbrev pub output_column : Name → ExprType → ScopeColumn
 output_column name t = record { qualifier = None; column = record { name = name; kind = kind_of t } }
 
--- the column of an item
-abbrev pub item_column : List ScopeColumn → Item → Answer ScopeColumn
-item_column columns i = and_then (type_over columns i.expr) (λ t. Ok (output_column i.name t))
+-- the output column of an item, over a row or in groups
+abbrev pub item_column : TypeSetting → Item → Answer ScopeColumn
+item_column types i = and_then (type_at types i.expr) (λ t. Ok (output_column i.name t))
 
 -- the output columns, or the first error of types
-abbrev pub item_columns : List ScopeColumn → List Item → Answer (List ScopeColumn)
-item_columns columns items = collect (item_column columns) items
+abbrev pub item_columns : TypeSetting → List Item → Answer (List ScopeColumn)
+item_columns types items = collect (item_column types) items
 
 -- a value with its mark
 abbrev pub marked_value : Seen Value → Answer Marked
@@ -80,7 +80,7 @@ projected_to columns rel items picks cell =
 
 -- the columns first, and then the rows
 abbrev pub projected : RelData → List Item → List Pick → ℕ → Answer RelData
-projected rel items picks cell = and_then (item_columns rel.columns items) (λ columns. projected_to columns rel items picks cell)
+projected rel items picks cell = and_then (item_columns (over_columns rel.columns) items) (λ columns. projected_to columns rel items picks cell)
 
 -- ---- without marks
 
@@ -97,7 +97,7 @@ plain_item columns items picks cell r =
 -- one row for each, under the items' columns
 abbrev pub plain_projected : PlainRel → List Item → List Pick → ℕ → Answer PlainRel
 plain_projected rel items picks cell =
-    and_then (item_columns rel.columns items) (λ columns.
+    and_then (item_columns (over_columns rel.columns) items) (λ columns.
     and_then (listed (plain_item rel.columns items picks cell) rel.rows) (λ rows.
     plain_whole (record { columns = columns; rows = rows })))
 
@@ -125,7 +125,7 @@ columns_in (Err e) = []
 -- one row for each, under the items' columns
 abbrev pub shown_projected : ShownRel → List Item → ShownRel
 shown_projected rel items = record {
-  columns = columns_in (item_columns rel.columns items);
+  columns = columns_in (item_columns (over_columns rel.columns) items);
   rows = map (shown_item rel.columns items) rel.rows;
   is_open = rel.is_open;
   is_loose = rel.is_loose;

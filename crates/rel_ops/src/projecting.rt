@@ -2,6 +2,8 @@
 ghost use Rattle.std.specs.Prelude.{◌≡◌, Ok, OnOk};
 ghost use Rattle.cell_errors.specs.Answers.{Gives};
 ghost use Rattle.dataset_types.specs.Tables.{Distinct};
+ghost use Rattle.expr_meaning.specs.Calls.{type_setting};
+ghost use Rattle.expr_meaning.specs.Types.{over_columns};
 ghost use Rattle.relations.specs.Batches.{both, gathered};
 ghost use Rattle.relations.specs.Bound.{AreUnder};
 ghost use Rattle.rel_ops.specs.Project as spec;
@@ -9,7 +11,7 @@ ghost use Rattle.rel_ops.specs.Project.{item_names, item_row, projected, project
 
 use cell_errors::EvalFault;
 use dataset_types::{Column, Marked, MarkedValues, Picks, Row};
-use expr_meaning::{Bindings, ExprType, Scope, ScopeColumn, eval, type_of};
+use expr_meaning::{Bindings, ExprType, Scope, ScopeColumn, TypedSetting, eval, type_in};
 use relations::{Batch, Item, Items, Rel, bind_again};
 use std::alloc::Global;
 use value_types::{ColumnType, Name, NoMemory};
@@ -23,8 +25,8 @@ fn kind_of(of: ExprType) -> ColumnType
     }
 }
 
-/// The output column of an expression of this type, without a qualifier; one that is NULL alone is Text.
-pub fn output_column(name: &Name, of: ExprType) -> ScopeColumn
+/// The output column of an expression of this type.
+fn output_column(name: &Name, of: ExprType) -> ScopeColumn
     ensures { result ≡ spec.output_column name.now of }
 {
     ScopeColumn {
@@ -36,21 +38,24 @@ pub fn output_column(name: &Name, of: ExprType) -> ScopeColumn
     }
 }
 
-fn item_column(alloc: Global, columns: &Scope, item: &Item) -> Result<ScopeColumn, EvalFault>
-    ensures { Gives result (spec.item_column columns.now item.now) }
+fn item_column(types: &TypedSetting, item: &Item) -> Result<ScopeColumn, EvalFault>
+    ensures { Gives result (spec.item_column (type_setting types.now) item.now) }
 {
-    let of = type_of(alloc, &item.expr, columns)?;
+    let of = type_in(&item.expr, types)?;
     Ok(output_column(&item.name, of))
 }
 
-/// The output columns, or the first error of types.
+/// The output columns of items, over a row or in groups.
+///
+/// - Shape: each has its item's name and type and no qualifier; one that is NULL alone is Text.
+/// - Error: the first of the items' types.
 #[tactic(auto, using(relations::proofs::Collecting::collecting))]
-fn item_columns(alloc: Global, columns: &Scope, items: &[Item]) -> Result<Scope, EvalFault>
-    ensures { Gives result (spec.item_columns columns.now items.now) }
+pub fn item_columns(alloc: Global, types: &TypedSetting, items: &[Item]) -> Result<Scope, EvalFault>
+    ensures { Gives result (spec.item_columns (type_setting types.now) items.now) }
 {
     let mut all = Scope::new(alloc)?;
     for item in items {
-        let column = item_column(alloc, columns, item)?;
+        let column = item_column(types, item)?;
         all.push(alloc, column)?;
     }
     Ok(all)
@@ -152,7 +157,7 @@ fn with_columns(
     cell: u32,
 ) -> Result<Rel, EvalFault>
     requires names { Distinct (item_names items.now) }
-    requires columns { spec.item_columns rel.now.columns items.now ≡ Ok columns }
+    requires columns { spec.item_columns (over_columns rel.now.columns) items.now ≡ Ok columns }
     ensures { Gives result (projected_to columns rel.now items.now picks.now cell) }
 {
     rel.law_of_rules();
@@ -178,6 +183,10 @@ pub fn project(
     requires names { Distinct (item_names items.now) }
     ensures { Gives result (projected rel.now items.now picks.now cell) }
 {
-    let columns = item_columns(alloc, rel.columns(), items.as_slice())?;
+    let types = TypedSetting {
+        columns: rel.columns(),
+        group: None,
+    };
+    let columns = item_columns(alloc, &types, items.as_slice())?;
     with_columns(alloc, rel, columns, items, picks, cell)
 }
