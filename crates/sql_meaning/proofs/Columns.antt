@@ -28,7 +28,7 @@ use Rattle.rel_join.specs.Join.{left_row, few_pairs, all_pairs, joined}
 use Rattle.rel_group.specs.Keys.{are_places}
 use Rattle.rel_group.specs.Groups as groups
 use Rattle.rel_group.specs.Group as group
-use Rattle.rel_group.specs.Group.{grouped, grouped_to, group_columns, distinct, rows_of}
+use Rattle.rel_group.specs.Group.{grouped, grouped_to, distinct, rows_of}
 use Rattle.sql_parse.specs.declared.tables.TableRef.{TableRef}
 use Rattle.sql_parse.specs.declared.tables.JoinPart.{JoinPart}
 use Rattle.sql_parse.specs.declared.cores.Core.{Core}
@@ -37,7 +37,6 @@ use Rattle.sql_plan.specs.declared.core_plan.CorePlan.{CorePlan}
 use Rattle.sql_plan.specs.Folds.{folded}
 use Rattle.sql_plan.specs.Headings.{columns_of, table_columns}
 use Rattle.sql_plan.specs.Conditions.{condition_checked}
-use Rattle.sql_plan.specs.Items.{outputs_of}
 use Rattle.sql_plan.specs.Cores.{join_checked, tables_checked, is_grouped, keys_if}
 use Rattle.sql_plan.specs.Plan.{outputs, agrees, all_agree, sides_checked}
 use Rattle.expr_meaning.specs.Types.{over_columns}
@@ -70,17 +69,17 @@ join_columns kind a b out on picks cell e =
     let q = then_ok (gathered (left_row kind a.columns b on picks cell) a.rows) (λ m. whole (made m)) out p.2 in
     whole_columns (made q.0) out q.2
 
-project_columns : (rel out : RelData) (items : List Item) (picks : List Pick) (cell : ℕ) → projected rel items picks cell ≡ Ok out → item_columns rel.columns items ≡ Ok out.columns
+project_columns : (rel out : RelData) (items : List Item) (picks : List Pick) (cell : ℕ) → projected rel items picks cell ≡ Ok out → item_columns (over_columns rel.columns) items ≡ Ok out.columns
 project_columns rel out items picks cell e =
-    let p = then_ok (item_columns rel.columns items) (λ columns. projected_to columns rel items picks cell) out e in
+    let p = then_ok (item_columns (over_columns rel.columns) items) (λ columns. projected_to columns rel items picks cell) out e in
     let made = λ (b : Batch). rel_of p.0 b.rows rel.is_open rel.is_loose in
     let q = then_ok (gathered (item_row rel.columns items picks cell) rel.rows) (λ b. whole (made b)) out p.2 in
     p.1 ∙ ap fine (sym (whole_columns (made q.0) out q.2))
 
 grouped_columns : (rel out : RelData) (places : List ℕ) (having : Option Expr) (items : List Item) (picks : List Pick) (cell : ℕ) →
-    grouped rel places having items picks cell ≡ Ok out → group_columns (groups.group_types rel.columns places) items ≡ Ok out.columns
+    grouped rel places having items picks cell ≡ Ok out → item_columns (groups.group_types rel.columns places) items ≡ Ok out.columns
 grouped_columns rel out places having items picks cell e =
-    let p = then_ok (group_columns (groups.group_types rel.columns places) items) (λ columns. grouped_to columns rel places having items picks cell) out e in
+    let p = then_ok (item_columns (groups.group_types rel.columns places) items) (λ columns. grouped_to columns rel places having items picks cell) out e in
     let made = λ (b : Batch). rel_of p.0 b.rows (groups.may_lack_groups places rel || b.marked) false in
     let q = then_ok (rows_of rel places having items picks cell) (λ b. whole (made b)) out p.2 in
     p.1 ∙ ap fine (sym (whole_columns (made q.0) out q.2))
@@ -178,12 +177,12 @@ module _ (picks : List Pick) (cell : ℕ) where
         output_by S rows c.keys having c.items ≡ Ok out → Cols out ≡ c.columns
     output_columns core c facts rows out having is e = by c.keys refl e facts.outputs
       where
-        by : (keys : Option (List ℕ)) → c.keys ≡ keys → output_by S rows keys having c.items ≡ Ok out → outputs_of (setting_by keys facts.columns) c.items ≡ Ok c.columns → Cols out ≡ c.columns
+        by : (keys : Option (List ℕ)) → c.keys ≡ keys → output_by S rows keys having c.items ≡ Ok out → item_columns (setting_by keys facts.columns) c.items ≡ Ok c.columns → Cols out ≡ c.columns
         by None k made are =
-            the_same (Cols out) c.columns (sym (project_columns rows out c.items picks cell made) ∙ (ap (λ cs. item_columns cs c.items) is ∙ are))
+            the_same (Cols out) c.columns (sym (project_columns rows out c.items picks cell made) ∙ (ap (λ cs. item_columns (over_columns cs) c.items) is ∙ are))
         by (Some ks) k made are =
             the_same (Cols out) c.columns (sym (grouped_columns rows out ks having c.items picks cell made)
-            ∙ (ap (λ cs. group_columns (groups.group_types cs ks) c.items) is ∙ outputs_kept facts.columns ks (keys_are core c facts ks k) c.items c.columns are))
+            ∙ (ap (λ cs. item_columns (groups.group_types cs ks) c.items) is ∙ outputs_kept facts.columns ks (keys_are core c facts ks k) c.items c.columns are))
 
     -- the rows of a core have the columns of its plan
     pub core_columns : (c : CorePlan) (out : RelData) → IsPlanned H c → core_rel S tables c ≡ Ok out → Cols out ≡ c.columns

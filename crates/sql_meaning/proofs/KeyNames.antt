@@ -13,17 +13,15 @@ use Rattle.expr_meaning.specs.Names.{Name, is_match, at_most_one, matching, or_n
 use Rattle.expr_meaning.specs.Types.{find_column, column_type, type_at}
 use Rattle.relations.specs.declared.parts.Item.{Item}
 use Rattle.relations.specs.Conditions.{kept_if}
-use Rattle.relations.proofs.Gathered.{fine, then_ok, Each}
-use Rattle.rel_ops.specs.Project.{output_column}
+use Rattle.relations.proofs.Gathered.{then_ok, Each}
+use Rattle.rel_ops.specs.Project.{item_columns}
 use Rattle.rel_group.specs.Keys.{is_place, are_places, items_at, once_after}
 use Rattle.rel_group.specs.Groups as groups
-use Rattle.rel_group.specs.Group.{group_column, group_columns}
 use Rattle.rel_group.specs.Laws.{IsTyped}
 use Rattle.sql_plan.specs.Places.{placed_from}
 use Rattle.sql_plan.specs.Conditions.{where_condition, some_condition_checked}
 use Rattle.sql_plan.specs.Groups.{is_key, once_or_twice, columns_at, key_columns, grouped_setting}
-use Rattle.sql_plan.specs.Items.{output_of, outputs_of}
-use Rattle.sql_plan.proofs.Refining.{Below, type_kept}
+use Rattle.sql_plan.proofs.Refining.{Below, type_kept, items_kept}
 
 -- ---- columns of which one alone passes a test
 
@@ -284,18 +282,9 @@ module _ (columns : List ScopeColumn) (keys : List ℕ) (are : are_places column
       let h = then_ok (find_column D p name) (λ c. Ok (Of c.column.kind)) t e in
       rw (column_kept p name h.0 h.1) h.2
 
-  item_kept : (i : Item) → Below (output_of (grouped_setting columns keys) i) (group_column (groups.group_types columns keys) i)
-  item_kept i c e =
-      let h = then_ok (type_at (grouped_setting columns keys) i.expr) (λ t. fine (output_column i.name t)) c e in
-      rw (type_kept (grouped_setting columns keys) (groups.group_types columns keys) refl names_kept i.expr h.0 h.1) h.2
-
   -- the output columns of a grouped core are those of its groups
-  pub outputs_kept : (items : List Item) → Below (outputs_of (grouped_setting columns keys) items) (group_columns (groups.group_types columns keys) items)
-  outputs_kept [] cs e = e
-  outputs_kept (i ∷ is) cs e =
-      let p = then_ok (output_of (grouped_setting columns keys) i) (λ y. and_then (outputs_of (grouped_setting columns keys) is) (λ ys. fine (y ∷ ys))) cs e in
-      let q = then_ok (outputs_of (grouped_setting columns keys) is) (λ ys. fine (p.0 ∷ ys)) cs p.2 in
-      rw (item_kept i p.0 p.1, outputs_kept is q.0 q.1) q.2
+  pub outputs_kept : (items : List Item) → Below (item_columns (grouped_setting columns keys) items) (item_columns (groups.group_types columns keys) items)
+  outputs_kept items = items_kept (grouped_setting columns keys) (groups.group_types columns keys) refl names_kept items
 
   -- HAVING has a type among the groups
   pub having_kept : (having : Option Expr) (u : Unit {0}) → some_condition_checked (grouped_setting columns keys) having ≡ Ok u → IsTyped (groups.group_types columns keys) having

@@ -7,6 +7,7 @@ use Rattle.dataset_types.specs.declared.picks.Pick.{Pick}
 use Rattle.dataset_types.specs.Tables.{Distinct}
 use Rattle.cell_errors.specs.declared.fault.CellError.TheVariants as error
 use Rattle.expr_lang.specs.declared.expr.Expr.{Expr}
+use Rattle.expr_meaning.specs.Types.{over_columns}
 use Rattle.relations.specs.declared.batch.Batch.{Batch}
 use Rattle.relations.specs.declared.parts.Item.{Item}
 use Rattle.relations.specs.declared.parts.SortKey.{SortKey}
@@ -28,7 +29,7 @@ use Rattle.rel_join.specs.Rules.{AreApart}
 use Rattle.rel_join.specs.Join.{left_row, few_pairs, all_pairs, joined}
 use Rattle.rel_join.proofs.JoinRules.{join_rules}
 use Rattle.rel_group.specs.Groups as groups
-use Rattle.rel_group.specs.Group.{grouped, grouped_to, group_columns, rows_of, key_row, distinct}
+use Rattle.rel_group.specs.Group.{grouped, grouped_to, rows_of, key_row, distinct}
 use Rattle.rel_group.proofs.GroupRules.{group_rules}
 use Rattle.rel_group.proofs.DistinctRules.{distinct_rules}
 
@@ -55,7 +56,7 @@ join_is kind a b out on picks cell is too apart e =
 
 pub project_is : (rel out : RelData) (items : List Item) (picks : List Pick) (cell : ℕ) → IsRel rel → Distinct (item_names items) → projected rel items picks cell ≡ Ok out → IsRel out
 project_is rel out items picks cell is names e =
-    let p = then_ok (item_columns rel.columns items) (λ columns. projected_to columns rel items picks cell) out e in
+    let p = then_ok (item_columns (over_columns rel.columns) items) (λ columns. projected_to columns rel items picks cell) out e in
     let made = λ (b : Batch). rel_of p.0 b.rows rel.is_open rel.is_loose in
     let q = then_ok (gathered (item_row rel.columns items picks cell) rel.rows) (λ b. whole (made b)) out p.2 in
     whole_is (made q.0) out (project_rules rel items p.0 picks cell p.1 q.0 rel.is_loose is names q.1) q.2
@@ -63,7 +64,7 @@ project_is rel out items picks cell is names e =
 pub group_is : (rel out : RelData) (places : List ℕ) (having : Option Expr) (items : List Item) (picks : List Pick) (cell : ℕ) → IsRel rel → Distinct (item_names items) →
     grouped rel places having items picks cell ≡ Ok out → IsRel out
 group_is rel out places having items picks cell is names e =
-    let p = then_ok (group_columns (groups.group_types rel.columns places) items) (λ columns. grouped_to columns rel places having items picks cell) out e in
+    let p = then_ok (item_columns (groups.group_types rel.columns places) items) (λ columns. grouped_to columns rel places having items picks cell) out e in
     let made = λ (b : Batch). rel_of p.0 b.rows (groups.may_lack_groups places rel || b.marked) false in
     let q = then_ok (rows_of rel places having items picks cell) (λ b. whole (made b)) out p.2 in
     whole_is (made q.0) out (group_rules rel places having items picks cell p.0 q.0 is names p.1 q.1) q.2

@@ -8,14 +8,14 @@ use Rattle.expr_meaning.specs.Types.{TypeSetting, type_at, over_columns}
 use Rattle.relations.specs.declared.parts.Item.{Item}
 use Rattle.relations.specs.Rels.{bare_columns}
 use Rattle.relations.proofs.Gathered.{fine, the_same, then_ok}
-use Rattle.rel_ops.specs.Project.{item_names, output_column}
+use Rattle.rel_ops.specs.Project.{item_names, output_column, item_column, item_columns}
 use Rattle.sql_parse.specs.declared.cores.Core.{Core}
 use Rattle.sql_plan.specs.declared.heading.Heading.{Heading}
 use Rattle.sql_plan.specs.declared.core_plan.CorePlan.{CorePlan}
 use Rattle.sql_plan.specs.Names.{each_once}
 use Rattle.sql_plan.specs.Conditions.{some_condition_checked}
 use Rattle.sql_plan.specs.Groups.{key_places, grouped_setting, output_setting}
-use Rattle.sql_plan.specs.Items.{items_of, output_of, outputs_of}
+use Rattle.sql_plan.specs.Items.{items_of}
 use Rattle.sql_plan.specs.Cores.{qualifiers, tables_checked, is_grouped, keys_if, outputs_checked, items_checked, core_checked}
 use Rattle.sql_plan.proofs.Naming.{once_distinct}
 
@@ -35,7 +35,7 @@ pub record CoreFacts (headings : List Heading) (written : Core) (c : CorePlan) :
   pub keys : c.keys ≡ keys_if (is_grouped written c.items) places
   pub checked : Unit {0}
   pub having : some_condition_checked (setting_by c.keys columns) written.having ≡ Ok checked
-  pub outputs : outputs_of (setting_by c.keys columns) c.items ≡ Ok c.columns
+  pub outputs : item_columns (setting_by c.keys columns) c.items ≡ Ok c.columns
   pub names : Distinct (item_names c.items)
 
 same_setting : (g : Bool) (columns : List ScopeColumn) (keys : List ℕ) → output_setting g columns keys ≡ setting_by (keys_if g keys) columns
@@ -45,14 +45,14 @@ same_setting false columns keys = refl
 record OutputFacts (setting : TypeSetting) (condition : Option Expr) (items : List Item) (columns : List ScopeColumn) : Type 0 where
   checked : Unit {0}
   having : some_condition_checked setting condition ≡ Ok checked
-  outputs : outputs_of setting items ≡ Ok columns
+  outputs : item_columns setting items ≡ Ok columns
   names : Distinct (item_names items)
 
 output_facts : (setting : TypeSetting) (having : Option Expr) (items : List Item) (outputs : List ScopeColumn) →
     outputs_checked setting having items ≡ Ok outputs → OutputFacts setting having items outputs
 output_facts setting having items outputs e =
-    let h = then_ok (some_condition_checked setting having) (λ u. and_then (outputs_of setting items) (λ columns. and_then (each_once (item_names items)) (λ v. fine columns))) outputs e in
-    let t = then_ok (outputs_of setting items) (λ columns. and_then (each_once (item_names items)) (λ v. fine columns)) outputs h.2 in
+    let h = then_ok (some_condition_checked setting having) (λ u. and_then (item_columns setting items) (λ columns. and_then (each_once (item_names items)) (λ v. fine columns))) outputs e in
+    let t = then_ok (item_columns setting items) (λ columns. and_then (each_once (item_names items)) (λ v. fine columns)) outputs h.2 in
     let n = then_ok (each_once (item_names items)) (λ v. fine t.0) outputs t.2 in
     record {
       checked = h.0;
@@ -88,17 +88,17 @@ core_facts headings core c e =
       keys = refl;
       checked = f.checked;
       having = subst (λ s. some_condition_checked s core.having ≡ Ok f.checked) (same_setting g q.0 k.0) f.having;
-      outputs = subst (λ s. outputs_of s items ≡ Ok o.0) (same_setting g q.0 k.0) f.outputs;
+      outputs = subst (λ s. item_columns s items ≡ Ok o.0) (same_setting g q.0 k.0) f.outputs;
       names = f.names;
     })
 
 -- the output columns have the names of the items
-pub names_are : (setting : TypeSetting) (items : List Item) (columns : List ScopeColumn) → outputs_of setting items ≡ Ok columns →
+pub names_are : (setting : TypeSetting) (items : List Item) (columns : List ScopeColumn) → item_columns setting items ≡ Ok columns →
     column_names (bare_columns columns) ≡ item_names items
 names_are setting [] columns e = ap (λ cs. column_names (bare_columns cs)) (sym (the_same [] columns e))
 names_are setting (i ∷ is) columns e =
-    let p = then_ok (output_of setting i) (λ y. and_then (collect (output_of setting) is) (λ ys. fine (y ∷ ys))) columns e in
-    let q = then_ok (collect (output_of setting) is) (λ ys. fine (p.0 ∷ ys)) columns p.2 in
+    let p = then_ok (item_column setting i) (λ y. and_then (collect (item_column setting) is) (λ ys. fine (y ∷ ys))) columns e in
+    let q = then_ok (collect (item_column setting) is) (λ ys. fine (p.0 ∷ ys)) columns p.2 in
     let t = then_ok (type_at setting i.expr) (λ t. fine (output_column i.name t)) p.0 p.1 in
     ap (λ cs. column_names (bare_columns cs)) (sym (the_same (p.0 ∷ q.0) columns q.2))
     ∙ (ap (λ c. c.column.name ∷ column_names (bare_columns q.0)) (sym (the_same (output_column i.name t.0) p.0 t.2))

@@ -17,7 +17,9 @@ use Rattle.expr_meaning.specs.declared.expr_type.ExprType.TheVariants.{Null, Of}
 use Rattle.expr_meaning.specs.Names.{Name}
 use Rattle.expr_meaning.specs.Types.{TypeSetting, where_bool, unary_type, left_type, cast_type, comparison_type, binary_typing, like_typing, list_typing, agree, agreed, arms_typing, column_type, over_typing, type_at, over_type_at, arm_type_at}
 use Rattle.expr_meaning.proofs.Typings.{T-Literal, T-Column, T-Unary, T-Binary, T-IsNull, T-Like, T-OneOf, T-Case, T-Coalesce, T-Cast, T-Caveat, T-CountAll, T-Count, T-Sum, T-Min, T-Max}
+use Rattle.relations.specs.declared.parts.Item.{Item}
 use Rattle.relations.proofs.Gathered.{then_ok}
+use Rattle.rel_ops.specs.Project.{item_column, item_columns}
 
 -- what the first gives without error, the other gives
 abbrev pub Below : {A : Type 0} → Answer A → Answer A → Type 0
@@ -138,3 +140,13 @@ module _ (s t : TypeSetting) (group : s.group ≡ t.group) (names : (q : Option 
       (λ x y is. subst (λ z. Below (type_at s (roll-Expr z)) (type_at t (roll-Expr z))) is (form_below y))
       (λ x y is. rw (out-roll-Arm x)
       (subst (λ z. Below (type_at s z.condition) (type_at t z.condition) × Below (type_at s z.answer) (type_at t z.answer)) is (y.condition.1, y.answer.1)))
+
+  item_kept : (i : Item) → Below (item_column s i) (item_column t i)
+  item_kept i = below_then (type_at s i.expr) (type_at t i.expr) _ _ (type_kept i.expr) (λ u. itself _)
+
+  -- items with output columns there have them here
+  pub items_kept : (items : List Item) → Below (item_columns s items) (item_columns t items)
+  items_kept [] = itself _
+  items_kept (i ∷ is) =
+      below_then (item_column s i) (item_column t i) _ _ (item_kept i)
+      (λ c. below_then (item_columns s is) (item_columns t is) _ _ (items_kept is) (λ cs. itself _))

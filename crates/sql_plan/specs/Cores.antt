@@ -7,7 +7,7 @@ use Rattle.expr_meaning.specs.declared.bindings.ScopeColumn.{ScopeColumn}
 use Rattle.expr_meaning.specs.Names.{Name}
 use Rattle.expr_meaning.specs.Types.{TypeSetting, over_columns}
 use Rattle.relations.specs.declared.parts.Item.{Item}
-use Rattle.rel_ops.specs.Project.{item_names}
+use Rattle.rel_ops.specs.Project.{item_names, item_columns}
 use Rattle.sql_parse.specs.declared.tables.JoinPart.{JoinPart}
 use Rattle.sql_parse.specs.declared.cores.Core.{Core}
 use Rattle.sql_plan.specs.declared.heading.Heading.{Heading}
@@ -18,7 +18,7 @@ use Rattle.sql_plan.specs.Names.{each_once}
 use Rattle.sql_plan.specs.Conditions.{condition_checked, some_condition_checked}
 use Rattle.sql_plan.specs.Aggregates.{has_aggregate}
 use Rattle.sql_plan.specs.Groups.{key_places, output_setting}
-use Rattle.sql_plan.specs.Items.{items_of, outputs_of}
+use Rattle.sql_plan.specs.Items.{items_of}
 
 -- the qualifiers of a core's tables
 abbrev pub qualifiers : Core → List Name
@@ -52,7 +52,7 @@ keys_if false keys = None
 abbrev pub outputs_checked : TypeSetting → Option Expr → List Item → Answer (List ScopeColumn)
 outputs_checked setting having items =
     and_then (some_condition_checked setting having) (λ u.
-    and_then (outputs_of setting items) (λ columns.
+    and_then (item_columns setting items) (λ columns.
     and_then (each_once (item_names items)) (λ v. Ok columns)))
 
 -- the plan of a core, from the columns of its tables and the places of its keys

@@ -1,13 +1,10 @@
--- The items of a core, with their names and types.
-use Rattle.std.specs.Prelude.{ℕ, ◌+◌, decimal, Option, Some, None, Ok, List, [], ◌∷◌, map}
-use Rattle.cell_errors.specs.Answers.{Answer, and_then, collect}
+-- The items of a core, with their names.
+use Rattle.std.specs.Prelude.{ℕ, ◌+◌, decimal, Option, Some, None, List, [], ◌∷◌, map}
 use Rattle.expr_lang.specs.declared.expr.Expr.{Expr, Column, out-Expr}
 use Rattle.expr_lang.specs.declared.expr.Expr.TheOpen.{Expr-F}
 use Rattle.expr_meaning.specs.declared.bindings.ScopeColumn.{ScopeColumn}
 use Rattle.expr_meaning.specs.Names.{Name}
-use Rattle.expr_meaning.specs.Types.{TypeSetting, type_at}
 use Rattle.relations.specs.declared.parts.Item.{Item}
-use Rattle.rel_ops.specs.Project.{output_column}
 use Rattle.sql_parse.specs.declared.cores.CoreItems.{CoreItems}
 use Rattle.sql_parse.specs.declared.cores.CoreItems.TheVariants.{All, Listed}
 use Rattle.sql_parse.specs.declared.cores.ItemText.{ItemText}
@@ -48,11 +45,3 @@ column_item c = record { expr = Column c.qualifier c.column.name; name = c.colum
 abbrev pub items_of : List ScopeColumn → CoreItems → List Item
 items_of columns All = map column_item columns
 items_of columns (Listed items) = named_from 1 items
-
--- the column of an item
-abbrev pub output_of : TypeSetting → Item → Answer ScopeColumn
-output_of setting i = and_then (type_at setting i.expr) (λ t. Ok (output_column i.name t))
-
--- the output columns, or the first error of types
-abbrev pub outputs_of : TypeSetting → List Item → Answer (List ScopeColumn)
-outputs_of setting items = collect (output_of setting) items

@@ -13,12 +13,13 @@ use crate::aggregates::has_aggregate;
 use crate::conditions::some_condition_checked;
 use crate::groups::{key_columns, key_places};
 use crate::heading::Heading;
-use crate::items::{item_names, items_of, outputs_of};
+use crate::items::{item_names, items_of};
 use crate::names::each_once;
 use crate::tables::{qualifiers, tables_checked};
 use cell_errors::{CellError, EvalFault};
 use expr_lang::Expr;
 use expr_meaning::{Scope, TypedSetting};
+use rel_ops::item_columns;
 use relations::{ColumnRefs, Item, Items};
 use sql_parse::Core;
 use std::alloc::Global;
@@ -66,7 +67,7 @@ fn outputs_checked(
     ensures { Gives result (spec.outputs_checked (type_setting setting.now) having.now items.now) }
 {
     some_condition_checked(setting, having)?;
-    let columns = outputs_of(alloc, setting, items)?;
+    let columns = item_columns(alloc, setting, items)?;
     let names = item_names(alloc, items)?;
     each_once(alloc, names.as_slice())?;
     Ok(columns)

@@ -1,15 +1,11 @@
-//! The items of a core, with their names and types.
+//! The items of a core, with their names.
 ghost use Rattle.std.specs.Prelude.{◌≡◌, ◌<◌, ◌^◌, IfOk, map};
 ghost use Rattle.std.specs.Option.{option_copied};
-ghost use Rattle.cell_errors.specs.Answers.{Gives};
 ghost use Rattle.rel_ops.specs.Project as project;
-ghost use Rattle.expr_meaning.specs.Calls.{type_setting};
 ghost use Rattle.sql_plan.specs.Items as spec;
 
-use cell_errors::EvalFault;
 use expr_lang::Expr;
-use expr_meaning::{Scope, ScopeColumn, TypedSetting, type_in};
-use rel_ops::output_column;
+use expr_meaning::ScopeColumn;
 use relations::{Item, Items};
 use sql_parse::{CoreItems, ItemText};
 use std::alloc::Global;
@@ -106,32 +102,6 @@ pub(crate) fn item_names(alloc: Global, items: &[Item]) -> Result<Names, NoMemor
     let mut all = Names::new(alloc)?;
     for item in items {
         all.push(alloc, item.name.copy())?;
-    }
-    Ok(all)
-}
-
-fn output_of(setting: &TypedSetting, item: &Item) -> Result<ScopeColumn, EvalFault>
-    ensures { Gives result (spec.output_of (type_setting setting.now) item.now) }
-{
-    let of = type_in(&item.expr, setting)?;
-    Ok(output_column(&item.name, of))
-}
-
-/// The columns of the items.
-///
-/// - Error: the first of their types.
-#[tactic(auto, using(relations::proofs::Collecting::collecting))]
-pub(crate) fn outputs_of(
-    alloc: Global,
-    setting: &TypedSetting,
-    items: &[Item],
-) -> Result<Scope, EvalFault>
-    ensures { Gives result (spec.outputs_of (type_setting setting.now) items.now) }
-{
-    let mut all = Scope::new(alloc)?;
-    for item in items {
-        let column = output_of(setting, item)?;
-        all.push(alloc, column)?;
     }
     Ok(all)
 }
