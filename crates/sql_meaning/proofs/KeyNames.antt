@@ -13,12 +13,12 @@ use Rattle.expr_meaning.specs.Names.{Name, is_match, at_most_one, matching, or_n
 use Rattle.expr_meaning.specs.Types.{find_column, column_type, type_at}
 use Rattle.relations.specs.declared.parts.Item.{Item}
 use Rattle.relations.specs.Conditions.{kept_if}
+use Rattle.relations.specs.Places.{placed_from}
 use Rattle.relations.proofs.Gathered.{then_ok, Each}
 use Rattle.rel_ops.specs.Project.{item_columns}
 use Rattle.rel_group.specs.Keys.{is_place, are_places, items_at, once_after}
 use Rattle.rel_group.specs.Groups as groups
 use Rattle.rel_group.specs.Laws.{IsTyped}
-use Rattle.sql_plan.specs.Places.{placed_from}
 use Rattle.sql_plan.specs.Conditions.{where_condition, some_condition_checked}
 use Rattle.sql_plan.specs.Groups.{is_key, once_or_twice, columns_at, key_columns, grouped_setting}
 use Rattle.sql_plan.proofs.Refining.{Below, type_kept, items_kept}

@@ -9,7 +9,7 @@ use Rattle.expr_meaning.specs.declared.expr_type.ExprType.TheVariants.{Null as U
 use Rattle.expr_meaning.specs.Types.{column_type}
 use Rattle.sql_parse.specs.declared.cores.CoreItems.TheVariants.{All}
 use Rattle.sql_plan.specs.Names.{each_once}
-use Rattle.sql_plan.specs.Places.{place_of}
+use Rattle.sql_plan.specs.Places.{named_place}
 use Rattle.sql_plan.specs.Conditions.{where_condition}
 use Rattle.sql_plan.specs.Groups.{key_columns}
 use Rattle.sql_plan.specs.Items.{position_name, name_by, column_item, items_of}
@@ -30,14 +30,14 @@ columns = id_of_p ∷ price_of_p ∷ id_of_q ∷ []
 
 -- ---- places
 
-price_is_second : place_of columns None (codes "price") ≡ Ok 2
+price_is_second : named_place columns None (codes "price") ≡ Ok 2
 price_is_second = refl
 
-id_of_q_is_third : place_of columns (Some (codes "q")) (codes "id") ≡ Ok 3
+id_of_q_is_third : named_place columns (Some (codes "q")) (codes "id") ≡ Ok 3
 id_of_q_is_third = refl
 
 -- two tables have an `id`
-id_is_of_two : place_of columns None (codes "id") ≡ Err error.NoColumn
+id_is_of_two : named_place columns None (codes "id") ≡ Err error.NoColumn
 id_is_of_two = refl
 
 -- ---- GROUP BY p.id: every other column stands twice

@@ -12,8 +12,7 @@ use Rattle.sql_parse.specs.declared.select.Select.{Select}
 use Rattle.sql_plan.specs.declared.heading.Heading.{Heading}
 use Rattle.sql_plan.specs.declared.core_plan.CorePlan.{CorePlan}
 use Rattle.sql_plan.specs.declared.plan.Plan.{Plan}
-use Rattle.sql_plan.specs.declared.place.ColumnAt.{ColumnAt}
-use Rattle.sql_plan.specs.Places.{placed, place_among}
+use Rattle.sql_plan.specs.Places.{named_place}
 use Rattle.sql_plan.specs.Cores.{core_checked}
 
 -- the output columns of a SELECT are those of its first core
@@ -38,16 +37,12 @@ abbrev pub sides_checked : List CorePlan → Answer (Unit {0})
 sides_checked cores = if all_agree (outputs cores) cores then Ok tt else Err error.TypeFault
 
 -- the place of the output column that a key of ORDER BY names
-abbrev pub key_checked : List ColumnAt → OrderKey → Answer SortKey
-key_checked places k = and_then (place_among places None k.name) (λ p. Ok (record { column = p; descending = k.descending }))
+abbrev pub key_checked : List ScopeColumn → OrderKey → Answer SortKey
+key_checked columns k = and_then (named_place columns None k.name) (λ p. Ok (record { column = p; descending = k.descending }))
 
 -- those of all keys, or the error of the first that is no output column
-abbrev pub keys_among : List ColumnAt → List OrderKey → Answer (List SortKey)
-keys_among places keys = collect (key_checked places) keys
-
--- the same from the output columns
 abbrev pub keys_checked : List ScopeColumn → List OrderKey → Answer (List SortKey)
-keys_checked columns keys = keys_among (placed columns) keys
+keys_checked columns keys = collect (key_checked columns) keys
 
 -- the plan of a SELECT, or its first error: the cores one after another, the sides of UNION, ORDER BY
 abbrev pub checked : Select → List Heading → Answer Plan

@@ -3,27 +3,27 @@ ghost use Rattle.std.specs.Prelude.{◌≡◌, ◌++◌, IfOk, OnOk};
 ghost use Rattle.cell_errors.specs.Answers.{Gives};
 ghost use Rattle.sql_plan.specs.Groups as spec;
 
-use crate::place::{ColumnAt, place_among, placed};
+use crate::place::named_place;
 use cell_errors::EvalFault;
 use expr_meaning::{Scope, ScopeColumn};
-use relations::ColumnRefs;
+use relations::{ColumnPlaces, ColumnRefs};
 use sql_parse::ColumnName;
 use std::alloc::Global;
 use value_types::NoMemory;
 
-fn key_place(places: &[ColumnAt], key: &ColumnName) -> Result<u32, EvalFault>
+fn key_place(places: &ColumnPlaces, key: &ColumnName) -> Result<u32, EvalFault>
     ensures { Gives result (spec.key_place places.now key.now) }
 {
-    Ok(place_among(places, &key.qualifier, &key.name)?)
+    named_place(places, &key.qualifier, &key.name)
 }
 
 #[tactic(auto, using(relations::proofs::Collecting::collecting))]
 fn keys_among(
     alloc: Global,
-    places: &[ColumnAt],
+    places: &ColumnPlaces,
     keys: &[ColumnName],
 ) -> Result<ColumnRefs, EvalFault>
-    ensures { Gives result (spec.keys_among places.now keys.now) }
+    ensures { Gives result (spec.key_places places.now keys.now) }
 {
     let mut all = ColumnRefs::new(alloc)?;
     for key in keys {
@@ -33,7 +33,7 @@ fn keys_among(
     Ok(all)
 }
 
-/// The places of the key columns.
+/// The places of the key columns, counted from 1.
 ///
 /// - Error: `NoColumn` for the first that isn't there.
 pub(crate) fn key_places(
@@ -43,28 +43,29 @@ pub(crate) fn key_places(
 ) -> Result<ColumnRefs, EvalFault>
     ensures { Gives result (spec.key_places columns.now keys.now) }
 {
-    let places = placed(alloc, columns)?;
-    keys_among(alloc, places.as_slice(), keys)
+    let places = ColumnPlaces::new(alloc, columns)?;
+    keys_among(alloc, &places, keys)
 }
 
-fn is_key(keys: &[u32], place: u32) -> bool
+fn is_key(keys: &[u32], place: usize) -> bool
     ensures { result ≡ spec.is_key keys.now place }
 {
-    keys.iter().any(|key| *key == place)
+    keys.iter().any(|key| *key as usize == place)
 }
 
-fn push_columns_at(
+/// The column put after those before it, once where it is a key and else twice.
+fn push_once_or_twice(
     alloc: Global,
     all: &mut Scope,
-    keys: &[u32],
-    at: &ColumnAt,
+    is_key: bool,
+    column: &ScopeColumn,
 ) -> Result<(), NoMemory>
-    ensures { OnOk result (all.new ≡ all.old ++ spec.columns_at keys.now at.now) }
+    ensures { OnOk result (all.new ≡ all.old ++ spec.once_or_twice is_key column.now) }
 {
-    if !is_key(keys, at.place) {
-        all.push(alloc, at.column.copy(alloc)?)?;
+    if !is_key {
+        all.push(alloc, column.copy(alloc)?)?;
     }
-    all.push(alloc, at.column.copy(alloc)?)?;
+    all.push(alloc, column.copy(alloc)?)?;
     Ok(())
 }
 
@@ -76,10 +77,9 @@ pub(crate) fn key_columns(
 ) -> Result<Scope, NoMemory>
     ensures { IfOk result (λ cs. cs ≡ spec.key_columns columns.now keys.now) }
 {
-    let places = placed(alloc, columns)?;
     let mut all = Scope::new(alloc)?;
-    for at in places.as_slice() {
-        push_columns_at(alloc, &mut all, keys, at)?;
+    for (place, column) in columns.iter().enumerate() {
+        push_once_or_twice(alloc, &mut all, is_key(keys, place + 1), column)?;
     }
     Ok(all)
 }

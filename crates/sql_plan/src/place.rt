@@ -1,57 +1,30 @@
-//! The places of columns.
-ghost use Rattle.std.specs.Prelude.{◌≡◌, IfOk};
+//! The places of columns, counted from 1.
+ghost use Rattle.std.specs.Prelude.{◌≡◌, ◌+◌, IfOk};
+ghost use Rattle.cell_errors.specs.Answers.{Gives};
 ghost use Rattle.sql_plan.specs.Places as spec;
 
-use cell_errors::CellError;
-use expr_meaning::{Named, ScopeColumn, meant};
-use std::alloc::Global;
-use value_types::{ListOf, Name, NoMemory};
+use cell_errors::EvalFault;
+use relations::ColumnPlaces;
+use value_types::{Name, NoMemory};
 
-/// A column, and its place among others, counted from 1.
-#[derive(Drop)]
-pub struct ColumnAt {
-    pub place: u32,
-    pub column: ScopeColumn,
-}
-
-impl Named for ColumnAt {
-    ghost qualifier_of = { λ p. p.column.qualifier };
-
-    ghost name_of = { λ p. p.column.column.name };
-
-    fn qualifier(&self) -> &Option<Name> {
-        &self.column.qualifier
-    }
-
-    fn name(&self) -> &Name {
-        &self.column.column.name
-    }
-}
-
-/// Each column with its place. More than 4,294,967,294 of them have no place here, as if there were no memory.
-pub(crate) fn placed(alloc: Global, columns: &[ScopeColumn]) -> Result<ListOf<ColumnAt>, NoMemory>
-    ensures { IfOk result (λ ps. ps ≡ spec.placed columns.now) }
+/// A place that is counted from 0, counted from 1. Those beyond 4,294,967,295 are none here, as if there were no memory.
+fn from_one(place: usize) -> Result<u32, NoMemory>
+    ensures { IfOk result (λ counted. counted ≡ place + 1) }
 {
-    let mut all = ListOf::new(alloc)?;
-    let mut place: u32 = 1;
-    for column in columns {
-        let column = column.copy(alloc)?;
-        all.push(alloc, ColumnAt { place, column })?;
-        place = place.checked_add(1).ok_or(NoMemory)?;
-    }
-    Ok(all)
+    let place = u32::try_from(place).map_err(|_| NoMemory)?;
+    place.checked_add(1).ok_or(NoMemory)
 }
 
 /// The place of the column that a name stands for.
 ///
 /// - Error: `NoColumn` where there is none, or two of them.
-pub(crate) fn place_among(
-    places: &[ColumnAt],
+pub(crate) fn named_place(
+    places: &ColumnPlaces,
     qualifier: &Option<Name>,
     name: &Name,
-) -> Result<u32, CellError>
-    ensures { result ≡ spec.place_among places.now qualifier.now name.now }
+) -> Result<u32, EvalFault>
+    ensures { Gives result (spec.named_place places.now qualifier.now name.now) }
 {
-    let found = meant(places, qualifier, name)?;
-    Ok(found.place)
+    let place = places.place_of(qualifier, name)?;
+    Ok(from_one(place)?)
 }

@@ -5,11 +5,11 @@ ghost use Rattle.sql_plan.specs.Plan as spec;
 
 use crate::core_plan::{CorePlan, CorePlans, core_checked};
 use crate::heading::{Heading, Headings};
-use crate::place::{ColumnAt, place_among, placed};
+use crate::place::named_place;
 use cell_errors::{CellError, EvalFault};
 use expr_meaning::ScopeColumn;
 use rel_ops::types_agree;
-use relations::{SortKey, SortKeys};
+use relations::{ColumnPlaces, SortKey, SortKeys};
 use sql_parse::{Core, OrderKey, Select};
 use std::alloc::Global;
 use value_types::ListOf;
@@ -65,10 +65,10 @@ fn sides_checked(cores: &[CorePlan]) -> Result<(), CellError>
     }
 }
 
-fn key_checked(places: &[ColumnAt], key: &OrderKey) -> Result<SortKey, EvalFault>
+fn key_checked(places: &ColumnPlaces, key: &OrderKey) -> Result<SortKey, EvalFault>
     ensures { Gives result (spec.key_checked places.now key.now) }
 {
-    let column = place_among(places, &None, &key.name)?;
+    let column = named_place(places, &None, &key.name)?;
     Ok(SortKey {
         column,
         descending: key.descending,
@@ -76,8 +76,12 @@ fn key_checked(places: &[ColumnAt], key: &OrderKey) -> Result<SortKey, EvalFault
 }
 
 #[tactic(auto, using(relations::proofs::Collecting::collecting))]
-fn keys_among(alloc: Global, places: &[ColumnAt], keys: &[OrderKey]) -> Result<SortKeys, EvalFault>
-    ensures { Gives result (spec.keys_among places.now keys.now) }
+fn keys_among(
+    alloc: Global,
+    places: &ColumnPlaces,
+    keys: &[OrderKey],
+) -> Result<SortKeys, EvalFault>
+    ensures { Gives result (spec.keys_checked places.now keys.now) }
 {
     let mut all = SortKeys::new(alloc)?;
     for key in keys {
@@ -94,8 +98,8 @@ fn keys_checked(
 ) -> Result<SortKeys, EvalFault>
     ensures { Gives result (spec.keys_checked columns.now keys.now) }
 {
-    let places = placed(alloc, columns)?;
-    keys_among(alloc, places.as_slice(), keys)
+    let places = ColumnPlaces::new(alloc, columns)?;
+    keys_among(alloc, &places, keys)
 }
 
 fn order_checked(
