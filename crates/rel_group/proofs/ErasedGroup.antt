@@ -25,12 +25,12 @@ use Rattle.relations.specs.Plain.{erased_rel, erased_batch, listed, plain_whole}
 use Rattle.relations.proofs.Binds.{binds_plain}
 use Rattle.relations.proofs.Gathered.{fine, all_erased}
 use Rattle.relations.proofs.Erasing.{whole_erased, batch_erased}
-use Rattle.rel_ops.specs.Project.{marked_value}
+use Rattle.rel_ops.specs.Project.{item_columns, marked_value}
 use Rattle.rel_group.specs.Groups.{Group}
 use Rattle.rel_group.specs.Group.{Tested}
 use Rattle.rel_group.specs.Keys.{once, ascending, rows_at}
 use Rattle.rel_group.specs.Groups.{key_values, is_uncertain, bound_rows, group_of, keyed_groups, groups, may_lack_groups, key_columns, certain, group_setting, group_types}
-use Rattle.rel_group.specs.Group.{group_columns, having_test, tested, group_value, group_values, row_of, group_row, group_rows, rows_of, grouped_to, key_row}
+use Rattle.rel_group.specs.Group.{having_test, tested, group_value, group_values, row_of, group_row, group_rows, rows_of, grouped_to, key_row}
 use Rattle.rel_group.specs.Plain.{PlainGroup, plain_key, plain_group_of, plain_keyed, plain_groups, plain_group_setting, plain_having, plain_tested, plain_row_of, plain_group_row, plain_group_rows}
 use Rattle.rel_group.specs.Laws.{GroupErases, DistinctErases}
 use Rattle.rel_group.proofs.Natural.{key_map, keys_map, rows_map}
@@ -175,7 +175,7 @@ module _ (picks : List Pick) (cell : ℕ) where
 -- ---- the steps
 
 pub group_erases_all : (places : List ℕ) (having : Option Expr) (items : List Item) → GroupErases places having items
-group_erases_all places having items picks cell rel = at (group_columns (group_types rel.columns places) items)
+group_erases_all places having items picks cell rel = at (item_columns (group_types rel.columns places) items)
   where
     setting : Group → MarkedSetting
     setting = group_setting rel.columns places (is_uncertain (Some places) rel)

@@ -1,8 +1,9 @@
 -- Groups of rows that fit their columns: values, distinct keys, and groups that are sure.
-use Rattle.std.proofs.Common.{◌≡◌, ℕ, suc, zero, ◌-◌, Bool, true, false, not, ◌&&◌, ◌||◌, Option, Some, None, List, [], ◌∷◌, ◌++◌, map, filter, cond, length, refl, subst, ap, ◌∙◌, sym, inl, inr, arith}
+use Rattle.std.proofs.Common.{◌≡◌, ℕ, suc, zero, ◌-◌, Bool, true, false, not, ◌||◌, Option, Some, None, List, [], ◌∷◌, ◌++◌, map, filter, cond, length, refl, subst, ap, ◌∙◌, sym, inl, inr, arith}
 use Rattle.std.specs.Prelude.{IsTrue, ◌==◌, slice_get}
 use Rattle.std.specs.Bool.{⊤}
 use Rattle.std.specs.List.{list_any, Contains}
+use Rattle.std.proofs.lemmas.Bool.{and_parts}
 use Rattle.std.proofs.lemmas.Bool.Decides.{Decides-eqb}
 use Rattle.std.proofs.Math.Bool.{or-true}
 use Rattle.value_types.specs.declared.value.Value.{Value}
@@ -76,10 +77,6 @@ FitsBare [] [] = ⊤
 FitsBare (c ∷ cs) (v ∷ vs) = IsTrue (fits v c.column.kind) × FitsBare cs vs
 FitsBare cs vs = ⊥
 
-and_parts : (a b : Bool) → IsTrue (a && b) → IsTrue a × IsTrue b
-and_parts true b e = (refl, e)
-and_parts false b e = cc
-
 bare_fit : (cs : List ScopeColumn) (ms : List Marked) → length ms ≡ length (bare_columns cs) → IsTrue (values_fit (bare_columns cs) ms) → FitsBare cs (map (λ m. m.value) ms)
 bare_fit [] [] n e = tt
 bare_fit [] (m ∷ ms) n e = absurd (omega (arith, n))
@@ -139,10 +136,10 @@ certain_fit (c ∷ cs) (v ∷ vs) e = let p = certain_fit cs vs e.1 in (ap suc p
 -- ---- the groups of rows that fit
 
 module _ (columns : List ScopeColumn) where
-  abbrev Good : Row → Type 0
+  abbrev pub Good : Row → Type 0
   Good r = IsTrue (row_fits (bare_columns columns) r)
 
-  good_parts : (r : Row) → Good r → (length r.values ≡ length (bare_columns columns)) × IsTrue (values_fit (bare_columns columns) r.values)
+  pub good_parts : (r : Row) → Good r → (length r.values ≡ length (bare_columns columns)) × IsTrue (values_fit (bare_columns columns) r.values)
   good_parts r g =
       let p = and_parts (length r.values == length (bare_columns columns)) (values_fit (bare_columns columns) r.values) g in
       ((Decides-eqb (length r.values) (length (bare_columns columns))).0 p.0, p.1)

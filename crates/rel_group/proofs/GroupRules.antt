@@ -29,11 +29,11 @@ use Rattle.relations.specs.Typed.{is_of, FitsSetting}
 use Rattle.relations.proofs.TypeLaw.{keeps_type}
 use Rattle.relations.proofs.Gathered.{fine, the_same, then_ok, Each}
 use Rattle.relations.proofs.Rules.{HasOnly, or_parts, all_of, all_pass, all_pass_unmarked, ids_distinct}
-use Rattle.rel_ops.specs.Project.{item_names, kind_of, output_column}
+use Rattle.rel_ops.specs.Project.{item_column, item_columns, item_names, kind_of, output_column}
 use Rattle.rel_group.specs.Groups.{Group}
 use Rattle.rel_group.specs.Group.{Tested}
 use Rattle.rel_group.specs.Groups.{is_uncertain, groups, may_lack_groups, group_setting, group_types}
-use Rattle.rel_group.specs.Group.{group_column, group_columns, having_test, tested, group_value, group_values, row_of, group_row, group_rows, rows_of}
+use Rattle.rel_group.specs.Group.{having_test, tested, group_value, group_values, row_of, group_row, group_rows, rows_of}
 use Rattle.rel_group.proofs.GroupFits.{each_back, groups_fitting, groups_apart, ids_apart, groups_sure}
 
 -- ---- values of the items' types
@@ -54,22 +54,22 @@ record FitAll (columns : List ScopeColumn) (values : List Marked) : Type 0 where
   fit : IsTrue (values_fit (bare_columns columns) values)
 
 module _ (types : TypeSetting) where
-  keys_are : (items : List Item) (columns : List ScopeColumn) → group_columns types items ≡ Ok columns → column_keys columns ≡ map (λ n. (None, n)) (item_names items)
+  keys_are : (items : List Item) (columns : List ScopeColumn) → item_columns types items ≡ Ok columns → column_keys columns ≡ map (λ n. (None, n)) (item_names items)
   keys_are [] columns e = ap column_keys (sym (the_same [] columns e))
   keys_are (i ∷ is) columns e =
-      let p = then_ok (group_column types i) (λ y. and_then (collect (group_column types) is) (λ ys. Ok (y ∷ ys))) columns e in
-      let q = then_ok (collect (group_column types) is) (λ ys. fine (p.0 ∷ ys)) columns p.2 in
+      let p = then_ok (item_column types i) (λ y. and_then (collect (item_column types) is) (λ ys. Ok (y ∷ ys))) columns e in
+      let q = then_ok (collect (item_column types) is) (λ ys. fine (p.0 ∷ ys)) columns p.2 in
       let t = then_ok (type_at types i.expr) (λ t. fine (output_column i.name t)) p.0 p.1 in
       ap column_keys (sym (the_same (p.0 ∷ q.0) columns q.2))
       ∙ (ap (λ c. column_key c ∷ column_keys q.0) (sym (the_same (output_column i.name t.0) p.0 t.2)) ∙ ap (λ z. (None, i.name) ∷ z) (keys_are is q.0 q.1))
 
   module _ (s : MarkedSetting) (f : FitsSetting s types) (picks : List Pick) (cell : ℕ) where
-    values_are : (items : List Item) (columns : List ScopeColumn) (values : List Marked) → group_columns types items ≡ Ok columns → group_values items picks cell s ≡ Ok values → FitAll columns values
+    values_are : (items : List Item) (columns : List ScopeColumn) (values : List Marked) → item_columns types items ≡ Ok columns → group_values items picks cell s ≡ Ok values → FitAll columns values
     values_are [] columns values e k =
         subst (λ z. FitAll z values) (the_same [] columns e) (subst (FitAll []) (the_same [] values k) (record { count = refl; fit = refl }))
     values_are (i ∷ is) columns values e k =
-        let p = then_ok (group_column types i) (λ y. and_then (collect (group_column types) is) (λ ys. Ok (y ∷ ys))) columns e in
-        let q = then_ok (collect (group_column types) is) (λ ys. fine (p.0 ∷ ys)) columns p.2 in
+        let p = then_ok (item_column types i) (λ y. and_then (collect (item_column types) is) (λ ys. Ok (y ∷ ys))) columns e in
+        let q = then_ok (collect (item_column types) is) (λ ys. fine (p.0 ∷ ys)) columns p.2 in
         let t = then_ok (type_at types i.expr) (λ t. fine (output_column i.name t)) p.0 p.1 in
         let m = then_ok (group_value picks cell s i) (λ y. and_then (collect (group_value picks cell s) is) (λ ys. Ok (y ∷ ys))) values k in
         let n = then_ok (collect (group_value picks cell s) is) (λ ys. fine (m.0 ∷ ys)) values m.2 in
@@ -123,7 +123,7 @@ module _ (setting : Group → MarkedSetting) (having : Option Expr) (items : Lis
   sure_kept r true m e k = rw (e, k) refl
   sure_kept r false m e k = refl
 
-  module _ (types : TypeSetting) (columns : List ScopeColumn) (is : group_columns types items ≡ Ok columns) where
+  module _ (types : TypeSetting) (columns : List ScopeColumn) (is : item_columns types items ≡ Ok columns) where
     abbrev Fitting' : Tested → Type 0
     Fitting' x = FitsSetting (setting x.group) types
 
@@ -160,7 +160,7 @@ module _ (setting : Group → MarkedSetting) (having : Option Expr) (items : Lis
 
 -- the rows of the groups follow the rules
 pub group_rules : (rel : RelData) (places : List ℕ) (having : Option Expr) (items : List Item) (picks : List Pick) (cell : ℕ) (columns : List ScopeColumn) (b : Batch) →
-    IsRel rel → Distinct (item_names items) → group_columns (group_types rel.columns places) items ≡ Ok columns → rows_of rel places having items picks cell ≡ Ok b →
+    IsRel rel → Distinct (item_names items) → item_columns (group_types rel.columns places) items ≡ Ok columns → rows_of rel places having items picks cell ≡ Ok b →
     KeepsRules (rel_of columns b.rows (may_lack_groups places rel || b.marked) false)
 group_rules rel places having items picks cell columns b is names e k =
     let uncertain = is_uncertain (Some places) rel in

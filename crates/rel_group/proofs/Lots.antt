@@ -128,5 +128,5 @@ module _ (job : Job) (having : Option Expr) (items : List Item) where
   rows_are gs is stand =
       sym (rows_bound gs)
       ∙ (ap (group_rows (setting_in job) having items job.picks.now job.cell) (stand job.rel.now.columns)
-      ∙ (let columns = is.0 in let uncertain = is.1 in
+      ∙ (let columns = is.columns in let uncertain = is.uncertain in
       λ i. group_rows (setting_under (columns i) job.places.now (uncertain i)) having items job.picks.now job.cell (groups job.rel.now.columns job.places.now job.rel.now.rows)))

@@ -26,12 +26,12 @@ use Rattle.relations.specs.Batches.{both, gathered}
 use Rattle.relations.specs.Conditions.{test_of, kept}
 use Rattle.relations.specs.Typed.{FitsColumns}
 use Rattle.relations.proofs.Gathered.{fine, the_same, then_ok, Each}
-use Rattle.rel_ops.specs.Project.{output_column, marked_value}
+use Rattle.rel_ops.specs.Project.{item_column, item_columns, output_column, marked_value}
 use Rattle.rel_group.specs.Groups.{Group}
 use Rattle.rel_group.specs.Group.{Tested}
 use Rattle.rel_group.specs.Keys.{once, ascending, rows_at}
 use Rattle.rel_group.specs.Groups.{key_values, has_marked_key, is_certain, is_uncertain, bound_rows, group_of, keyed_groups, groups, may_lack_groups, key_columns, certain, group_setting, group_types}
-use Rattle.rel_group.specs.Group.{group_column, group_columns, having_test, tested, group_value, group_values, row_of, group_row, group_rows, rows_of, grouped_to, grouped}
+use Rattle.rel_group.specs.Group.{having_test, tested, group_value, group_values, row_of, group_row, group_rows, rows_of, grouped_to, grouped}
 use Rattle.rel_group.specs.Laws.{IsTyped}
 use Rattle.rel_group.proofs.KeyOrder.{Key, same_ascending}
 use Rattle.rel_group.proofs.GroupFits.{groups_good}
@@ -82,7 +82,7 @@ module _ (columns : List ScopeColumn) (rows others : List Row) (m : Moved rows o
 -- ---- HAVING and the items
 
 module _ (columns : List ScopeColumn) (places : List ℕ) (uncertain : Bool) (having : Option Expr) (items : List Item) (picks : List Pick) (cell : ℕ)
-    (typed : IsTyped (group_types columns places) having) (outputs : List ScopeColumn) (is : group_columns (group_types columns places) items ≡ Ok outputs) where
+    (typed : IsTyped (group_types columns places) having) (outputs : List ScopeColumn) (is : item_columns (group_types columns places) items ≡ Ok outputs) where
   abbrev setting : Group → MarkedSetting
   setting = group_setting columns places uncertain
 
@@ -102,14 +102,14 @@ module _ (columns : List ScopeColumn) (places : List ℕ) (uncertain : Bool) (ha
         let p = then_ok s.answer (λ v. and_then (is_true v) (λ h. Ok (record { holds = h; marked = s.marked }))) t e in
         ap test_of (follows_in condition u p.0 p.1) ∙ e
 
-    values_moved : (is' : List Item) (cs : List ScopeColumn) → group_columns (group_types columns places) is' ≡ Ok cs → (values : List Marked) →
+    values_moved : (is' : List Item) (cs : List ScopeColumn) → item_columns (group_types columns places) is' ≡ Ok cs → (values : List Marked) →
         group_values is' picks cell (setting g) ≡ Ok values → group_values is' picks cell (setting (with_others g others)) ≡ Ok values
     values_moved [] cs k values e = e
     values_moved (i ∷ rest) cs k values e =
         let types = group_types columns places in
         let s = marked_at (setting g) picks cell i.expr in
-        let p = then_ok (group_column types i) (λ y. and_then (collect (group_column types) rest) (λ ys. Ok (y ∷ ys))) cs k in
-        let q = then_ok (collect (group_column types) rest) (λ ys. fine (p.0 ∷ ys)) cs p.2 in
+        let p = then_ok (item_column types i) (λ y. and_then (collect (item_column types) rest) (λ ys. Ok (y ∷ ys))) cs k in
+        let q = then_ok (collect (item_column types) rest) (λ ys. fine (p.0 ∷ ys)) cs p.2 in
         let t = then_ok (type_at types i.expr) (λ t. fine (output_column i.name t)) p.0 p.1 in
         let n = then_ok (group_value picks cell (setting g) i) (λ y. and_then (collect (group_value picks cell (setting g)) rest) (λ ys. Ok (y ∷ ys))) values e in
         let o = then_ok (collect (group_value picks cell (setting g)) rest) (λ ys. fine (n.0 ∷ ys)) values n.2 in
@@ -189,7 +189,7 @@ pub grouped_moved : (rel : RelData) (others : List Row) (places : List ℕ) (hav
     grouped rel places having items picks cell ≡ Ok out → grouped (with_order rel others) places having items picks cell ≡ Ok out
 grouped_moved rel others places having items picks cell out typed fit m e =
     let types = group_types rel.columns places in
-    let c = then_ok (group_columns types items) (λ columns. grouped_to columns rel places having items picks cell) out e in
+    let c = then_ok (item_columns types items) (λ columns. grouped_to columns rel places having items picks cell) out e in
     let p = then_ok (rows_of rel places having items picks cell) (λ b. whole (rel_of c.0 b.rows (may_lack_groups places rel || b.marked) false)) out c.2 in
     let marks = λ (keys : Option (List ℕ)). ap (λ b. rel.is_open || b) (moved_any (has_marked_key keys) rel.rows others m) in
     let setting = group_setting rel.columns places in

@@ -15,7 +15,7 @@ use Rattle.relations.proofs.Gathered.{Each}
 use Rattle.rel_group.specs.declared.parts.Lot.{Lot}
 use Rattle.rel_group.specs.declared.keyed.Keyed.{Keyed}
 use Rattle.rel_group.specs.Keys.{key_cmp, put_by, put, ascending, rows_at}
-use Rattle.rel_group.specs.Calls.{with_key, keyed_from, all_keyed, lots_of, single, with_row, collected, all_collected, placed_by, placed, place_of, has_key}
+use Rattle.rel_group.specs.Calls.{with_key, keyed_from, all_keyed, lots_of, single, with_row, collected, all_collected, placed_by, placed, lots_before, has_key}
 use Rattle.rel_group.proofs.KeyOrder.{Key, key_exact, Below, below_apart, above, not_same, Stands, Ascends, ascends, into_ascending, each_below, same_ascending}
 use Rattle.rel_group.proofs.Cuts.{key, no_rows}
 
@@ -23,21 +23,21 @@ use Rattle.rel_group.proofs.Cuts.{key, no_rows}
 
 module _ (k : Key) (gs : List Lot) where
   -- the lot at the place, and those behind it
-  next_lot : (i : ℕ) (g : Lot) → i < length gs → place_of k (drop i gs) ≡ (if is_gt (key_cmp k (get_or gs i g).key) then suc (place_of k (drop (i + 1) gs)) else 0)
-  next_lot i g h = ap (place_of k) (drop_more gs i g h)
+  next_lot : (i : ℕ) (g : Lot) → i < length gs → lots_before k (drop i gs) ≡ (if is_gt (key_cmp k (get_or gs i g).key) then suc (lots_before k (drop (i + 1) gs)) else 0)
+  next_lot i g h = ap (lots_before k) (drop_more gs i g h)
 
-  pub passed : (i : ℕ) (g : Lot) → i < length gs → is_gt (key_cmp k (get_or gs i g).key) ≡ true → i + place_of k (drop i gs) ≡ (i + 1) + place_of k (drop (i + 1) gs)
+  pub passed : (i : ℕ) (g : Lot) → i < length gs → is_gt (key_cmp k (get_or gs i g).key) ≡ true → i + lots_before k (drop i gs) ≡ (i + 1) + lots_before k (drop (i + 1) gs)
   passed i g h e =
-      let n = next_lot i g h ∙ ap (λ b. if b then suc (place_of k (drop (i + 1) gs)) else 0) e in
+      let n = next_lot i g h ∙ ap (λ b. if b then suc (lots_before k (drop (i + 1) gs)) else 0) e in
       omega (arith, n)
 
-  pub stopped : (i : ℕ) (g : Lot) → i < length gs → is_gt (key_cmp k (get_or gs i g).key) ≡ false → i + place_of k (drop i gs) ≡ i
+  pub stopped : (i : ℕ) (g : Lot) → i < length gs → is_gt (key_cmp k (get_or gs i g).key) ≡ false → i + lots_before k (drop i gs) ≡ i
   stopped i g h e =
-      let n = next_lot i g h ∙ ap (λ b. if b then suc (place_of k (drop (i + 1) gs)) else 0) e in
+      let n = next_lot i g h ∙ ap (λ b. if b then suc (lots_before k (drop (i + 1) gs)) else 0) e in
       omega (arith, n)
 
-  pub ended : (i : ℕ) → length gs ≤ i → i + place_of k (drop i gs) ≡ i
-  ended i h = let n = ap (place_of k) (drop_all i gs h) in omega (arith, n)
+  pub ended : (i : ℕ) → length gs ≤ i → i + lots_before k (drop i gs) ≡ i
+  ended i h = let n = ap (lots_before k) (drop_all i gs h) in omega (arith, n)
 
 pub ruleset passing = (passed, stopped, ended)
 
@@ -45,20 +45,20 @@ pub ruleset passing = (passed, stopped, ended)
 
 module _ (x : Keyed) where
   is_here : (g : Lot) (gs : List Lot) (o : Ordering) → key_cmp x.key g.key ≡ o →
-      (place_of x.key (g ∷ gs) ≡ (if is_gt o then suc (place_of x.key gs) else 0)) × (placed (g ∷ gs) x ≡ placed_by o g gs x (placed gs x))
-  is_here g gs o e = (ap (λ z. if is_gt z then suc (place_of x.key gs) else 0) e, ap (λ z. placed_by z g gs x (placed gs x)) e)
+      (lots_before x.key (g ∷ gs) ≡ (if is_gt o then suc (lots_before x.key gs) else 0)) × (placed (g ∷ gs) x ≡ placed_by o g gs x (placed gs x))
+  is_here g gs o e = (ap (λ z. if is_gt z then suc (lots_before x.key gs) else 0) e, ap (λ z. placed_by z g gs x (placed gs x)) e)
 
   -- no lot has the key, and the row begins one
-  pub placed_new : (gs : List Lot) → has_key gs (place_of x.key gs) x.key ≡ false → placed gs x ≡ insert gs (place_of x.key gs) (single x)
+  pub placed_new : (gs : List Lot) → has_key gs (lots_before x.key gs) x.key ≡ false → placed gs x ≡ insert gs (lots_before x.key gs) (single x)
   placed_new [] h = refl
   placed_new (g ∷ gs) h = on (key_cmp x.key g.key) refl (placed_new gs)
     where
-      on : (o : Ordering) → key_cmp x.key g.key ≡ o → (has_key gs (place_of x.key gs) x.key ≡ false → placed gs x ≡ insert gs (place_of x.key gs) (single x)) →
-          placed (g ∷ gs) x ≡ insert (g ∷ gs) (place_of x.key (g ∷ gs)) (single x)
+      on : (o : Ordering) → key_cmp x.key g.key ≡ o → (has_key gs (lots_before x.key gs) x.key ≡ false → placed gs x ≡ insert gs (lots_before x.key gs) (single x)) →
+          placed (g ∷ gs) x ≡ insert (g ∷ gs) (lots_before x.key (g ∷ gs)) (single x)
       on Less e rest = let p = is_here g gs Less e in p.1 ∙ ap (λ n. insert (g ∷ gs) n (single x)) (sym p.0)
       on Equal e rest =
           let p = is_here g gs Equal e in
-          let there : has_key (g ∷ gs) (place_of x.key (g ∷ gs)) x.key ≡ true = ap (λ n. has_key (g ∷ gs) n x.key) p.0 ∙ (key_decides g.key x.key).1 (sym (key_exact x.key g.key e)) in
+          let there : has_key (g ∷ gs) (lots_before x.key (g ∷ gs)) x.key ≡ true = ap (λ n. has_key (g ∷ gs) n x.key) p.0 ∙ (key_decides g.key x.key).1 (sym (key_exact x.key g.key e)) in
           absurd (wrong (sym there ∙ h))
         where
           wrong : true ≡ false → ⊥
@@ -69,14 +69,14 @@ module _ (x : Keyed) where
           p.1 ∙ (ap (λ z. g ∷ z) (rest not_there) ∙ ap (λ n. insert (g ∷ gs) n (single x)) (sym p.0))
 
   -- the lot at the place has the key, and the row is put into it
-  pub placed_there : (gs : List Lot) (d : Lot) → has_key gs (place_of x.key gs) x.key ≡ true →
-      placed gs x ≡ set gs (place_of x.key gs) (with_row (get_or gs (place_of x.key gs) d) x)
+  pub placed_there : (gs : List Lot) (d : Lot) → has_key gs (lots_before x.key gs) x.key ≡ true →
+      placed gs x ≡ set gs (lots_before x.key gs) (with_row (get_or gs (lots_before x.key gs) d) x)
   placed_there [] d h = cc
   placed_there (g ∷ gs) d h = on (key_cmp x.key g.key) refl (placed_there gs d)
     where
       on : (o : Ordering) → key_cmp x.key g.key ≡ o →
-          (has_key gs (place_of x.key gs) x.key ≡ true → placed gs x ≡ set gs (place_of x.key gs) (with_row (get_or gs (place_of x.key gs) d) x)) →
-          placed (g ∷ gs) x ≡ set (g ∷ gs) (place_of x.key (g ∷ gs)) (with_row (get_or (g ∷ gs) (place_of x.key (g ∷ gs)) d) x)
+          (has_key gs (lots_before x.key gs) x.key ≡ true → placed gs x ≡ set gs (lots_before x.key gs) (with_row (get_or gs (lots_before x.key gs) d) x)) →
+          placed (g ∷ gs) x ≡ set (g ∷ gs) (lots_before x.key (g ∷ gs)) (with_row (get_or (g ∷ gs) (lots_before x.key (g ∷ gs)) d) x)
       on Less e rest =
           let p = is_here g gs Less e in
           absurd (below_apart x.key g.key e (sym ((key_decides g.key x.key).0 (sym (ap (λ n. has_key (g ∷ gs) n x.key) p.0) ∙ h))))
@@ -87,23 +87,23 @@ module _ (x : Keyed) where
           subst (λ n. placed (g ∷ gs) x ≡ set (g ∷ gs) n (with_row (get_or (g ∷ gs) n d) x)) (sym p.0) (p.1 ∙ ap (λ z. g ∷ z) (rest there))
 
   -- what the code leaves in these two cases
-  pub put_there : (gs : List Lot) (n : ℕ) (g new : Lot) → n ≡ place_of x.key gs → has_key gs n x.key ≡ true → g ≡ get_or gs n g → new ≡ with_row g x →
+  pub put_there : (gs : List Lot) (n : ℕ) (g new : Lot) → n ≡ lots_before x.key gs → has_key gs n x.key ≡ true → g ≡ get_or gs n g → new ≡ with_row g x →
       set gs n new ≡ placed gs x
   put_there gs n g new place there is e =
       ap (set gs n) (e ∙ ap (λ z. with_row z x) is)
       ∙ (ap (λ m. set gs m (with_row (get_or gs m g) x)) place
       ∙ sym (placed_there gs g (ap (λ m. has_key gs m x.key) (sym place) ∙ there)))
 
-  pub put_new : (gs : List Lot) (n : ℕ) (new : Lot) → n ≡ place_of x.key gs → has_key gs n x.key ≡ false → new ≡ single x → insert gs n new ≡ placed gs x
+  pub put_new : (gs : List Lot) (n : ℕ) (new : Lot) → n ≡ lots_before x.key gs → has_key gs n x.key ≡ false → new ≡ single x → insert gs n new ≡ placed gs x
   put_new gs n new place none e =
       ap (insert gs n) e ∙ (ap (λ m. insert gs m (single x)) place ∙ sym (placed_new gs (ap (λ m. has_key gs m x.key) (sym place) ∙ none)))
 
 -- a place is within the list, or behind it
-pub place_fits : (k : Key) (gs : List Lot) → place_of k gs ≤ length gs
+pub place_fits : (k : Key) (gs : List Lot) → lots_before k gs ≤ length gs
 place_fits k [] = omega arith
 place_fits k (g ∷ gs) = on (is_gt (key_cmp k g.key)) (place_fits k gs)
   where
-    on : (b : Bool) → place_of k gs ≤ length gs → (if b then suc (place_of k gs) else 0) ≤ suc (length gs)
+    on : (b : Bool) → lots_before k gs ≤ length gs → (if b then suc (lots_before k gs) else 0) ≤ suc (length gs)
     on true h = omega (arith, h)
     on false h = omega arith
 

@@ -1,10 +1,9 @@
 -- Items that are read at places: what they read is what the expressions give over the bound rows.
-use Rattle.std.proofs.Common.{◌≡◌, ℕ, suc, ◌+◌, ◌<◌, ◌≤◌, Bool, true, false, ◌||◌, nat_eq, Option, Some, None, Ok, List, [], ◌∷◌, ◌++◌, map, length, drop, get_or, pos, refl, ap, ◌∙◌, sym}
-use Rattle.std.specs.Prelude.{if◌then◌else◌, slice_get}
-use Rattle.std.specs.List.{cons_option}
+use Rattle.std.proofs.Common.{◌≡◌, ℕ, zero, suc, ◌+◌, ◌<◌, ◌≤◌, false, ◌||◌, Option, Some, None, Ok, List, [], ◌∷◌, ◌++◌, map, length, drop, get_or, pos, refl, subst, ap, ◌∙◌, sym, append_assoc, append-nil, arith}
+use Rattle.std.specs.Prelude.{IsTrue, slice_get}
+use Rattle.std.specs.List.{cons_option, list_any}
 use Rattle.std.proofs.lemmas.List.{drop_all, length-map}
-use Rattle.std.proofs.lemmas.Bool.{eqb-true}
-use Rattle.std.proofs.Math.Bool.{or-false}
+use Rattle.std.proofs.Math.Bool.{or-false, or_assoc}
 use Rattle.value_types.specs.declared.value.Value.{Value}
 use Rattle.value_types.specs.declared.value.Value.TheVariants.{Int}
 use Rattle.dataset_types.specs.declared.picks.Pick.{Pick}
@@ -21,44 +20,69 @@ use Rattle.expr_meaning.specs.declared.bindings.Binding.{Binding}
 use Rattle.expr_meaning.specs.declared.bindings.ScopeColumn.{ScopeColumn}
 use Rattle.expr_meaning.specs.Settings.{at_row}
 use Rattle.expr_meaning.specs.Meaning.{marked_at, over_at}
-use Rattle.expr_meaning.specs.Sees.{seen}
 use Rattle.expr_meaning.specs.Steps.{all_marked}
 use Rattle.expr_meaning.proofs.Readings.{M-Column, M-CountAll, M-Count, M-Sum, M-Min, M-Max}
+use Rattle.dataset_types.specs.Tables.{row_fits, rows_fit}
 use Rattle.relations.specs.Bound.{bindings}
+use Rattle.relations.specs.Rels.{IsRel, bare_columns}
 use Rattle.relations.specs.Places.{ReadsPlace}
+use Rattle.relations.proofs.Gathered.{Each}
+use Rattle.relations.proofs.Rules.{all_of}
 use Rattle.rel_ops.specs.Project.{marked_value}
 use Rattle.rel_group.specs.declared.parts.Lot.{Lot}
 use Rattle.rel_group.specs.declared.job.Job.{Job}
 use Rattle.rel_group.specs.declared.reading.Operands.{Operands}
 use Rattle.rel_group.specs.Groups.{bound_rows}
-use Rattle.rel_group.specs.Calls.{bound_in, expr_in, operand_then, operands_at, operands_from, over_in, rows_by, setting_in, value_in, with_operand}
+use Rattle.rel_group.specs.Calls.{bound_in, expr_in, more_operands, operands_at, operands_of, over_in, read_at, rows_by, setting_in, value_of, with_operand}
+use Rattle.rel_group.proofs.GroupFits.{Good, good_parts, each_more}
 use Rattle.rel_group.proofs.Lots.{next_rows}
 
 -- ---- the loop over the operands
 
-module _ (width place : ℕ) (rows : List Row) where
-  pub operand_here : (all : Operands) (ps : List ℕ) (i p : ℕ) (r : Row) (m : Marked) → i < length ps → p ≡ get_or ps i p →
-      slice_get rows p ≡ Some r → value_in width place r ≡ Some m →
-      operands_from width place all (rows_by rows (drop i ps)) ≡ operands_from width place (with_operand all m) (rows_by rows (drop (i + 1) ps))
-  operand_here all ps i p r m h e k v =
-      ap (operands_from width place all) (next_rows rows ps i p h e ∙ ap (λ o. cons_option o (rows_by rows (drop (i + 1) ps))) k)
-      ∙ ap (λ o. operand_then all o (λ more. operands_from width place more (rows_by rows (drop (i + 1) ps)))) v
+-- operands, and after them those at a place of these rows
+unfoldable pub read_on : ℕ → Operands → List Row → Operands
+read_on place all rows = more_operands all (operands_at place rows)
 
-  pub no_operand_here : (all : Operands) (ps : List ℕ) (i p : ℕ) (r : Row) → i < length ps → p ≡ get_or ps i p →
-      slice_get rows p ≡ Some r → value_in width place r ≡ None → operands_from width place all (rows_by rows (drop i ps)) ≡ None
-  no_operand_here all ps i p r h e k v =
-      ap (operands_from width place all) (next_rows rows ps i p h e ∙ ap (λ o. cons_option o (rows_by rows (drop (i + 1) ps))) k)
-      ∙ ap (λ o. operand_then all o (λ more. operands_from width place more (rows_by rows (drop (i + 1) ps)))) v
+module _ (place : ℕ) where
+  pub reading_begun : (rows : List Row) → operands_at place rows ≡ read_on place (record { values = []; marked = false }) rows
+  unfolding read_on
+  reading_begun rows = refl
 
-  pub no_row_here : (all : Operands) (ps : List ℕ) (i p : ℕ) → i < length ps → p ≡ get_or ps i p → slice_get rows p ≡ None →
-      operands_from width place all (rows_by rows (drop i ps)) ≡ operands_from width place all (rows_by rows (drop (i + 1) ps))
-  no_row_here all ps i p h e k =
-      ap (operands_from width place all) (next_rows rows ps i p h e ∙ ap (λ o. cons_option o (rows_by rows (drop (i + 1) ps))) k)
+  -- one comes after those before it
+  one_before : (all : Operands) (m : Marked) (ms : List Marked) → more_operands all (operands_of (m ∷ ms)) ≡ more_operands (with_operand all m) (operands_of ms)
+  one_before all m ms = rw (append_assoc, or_assoc all.marked m.marked (list_any (λ n. n.marked) ms)) refl
 
-  pub all_read : (all : Operands) (ps : List ℕ) (i : ℕ) → length ps ≤ i → operands_from width place all (rows_by rows (drop i ps)) ≡ Some all
-  all_read all ps i h = ap (λ z. operands_from width place all (rows_by rows z)) (drop_all i ps h)
+  one_more : (all : Operands) (r : Row) (rows : List Row) (m : Marked) → slice_get r.values place ≡ Some m →
+      more_operands all (operands_at place (r ∷ rows)) ≡ more_operands (with_operand all m) (operands_at place rows)
+  one_more all r rows m v = ap (λ o. more_operands all (operands_of (cons_option o (read_at place rows)))) v ∙ one_before all m (read_at place rows)
 
-pub ruleset operands = (operand_here, no_operand_here, no_row_here, all_read)
+  module _ (rows : List Row) where
+    next_read : (all : Operands) (ps : List ℕ) (i p : ℕ) (v : Option Marked) → i < length ps → p ≡ get_or ps i p → value_of place (slice_get rows p) ≡ v →
+        more_operands all (operands_at place (rows_by rows (drop i ps)))
+        ≡ more_operands all (operands_of (cons_option v (read_at place (rows_by rows (drop (i + 1) ps)))))
+    next_read all ps i p v h e is =
+        ap (λ z. more_operands all (operands_at place z)) (next_rows rows ps i p h e) ∙ ap (λ ms. more_operands all (operands_of ms)) (on (slice_get rows p) is)
+      where
+        on : (o : Option Row) → value_of place o ≡ v →
+            read_at place (cons_option o (rows_by rows (drop (i + 1) ps))) ≡ cons_option v (read_at place (rows_by rows (drop (i + 1) ps)))
+        on None k = ap (λ w. cons_option w (read_at place (rows_by rows (drop (i + 1) ps)))) k
+        on (Some r) k = ap (λ w. cons_option w (read_at place (rows_by rows (drop (i + 1) ps)))) k
+
+    pub operand_here : (all : Operands) (ps : List ℕ) (i p : ℕ) (m : Marked) → i < length ps → p ≡ get_or ps i p → value_of place (slice_get rows p) ≡ Some m →
+        read_on place all (rows_by rows (drop i ps)) ≡ read_on place (with_operand all m) (rows_by rows (drop (i + 1) ps))
+    unfolding read_on
+    operand_here all ps i p m h e k = next_read all ps i p (Some m) h e k ∙ one_before all m (read_at place (rows_by rows (drop (i + 1) ps)))
+
+    pub no_operand_here : (all : Operands) (ps : List ℕ) (i p : ℕ) → i < length ps → p ≡ get_or ps i p → value_of place (slice_get rows p) ≡ None →
+        read_on place all (rows_by rows (drop i ps)) ≡ read_on place all (rows_by rows (drop (i + 1) ps))
+    unfolding read_on
+    no_operand_here all ps i p h e k = next_read all ps i p None h e k
+
+    pub all_read : (all : Operands) (ps : List ℕ) (i : ℕ) → length ps ≤ i → read_on place all (rows_by rows (drop i ps)) ≡ all
+    unfolding read_on
+    all_read all ps i h = ap (λ z. more_operands all (operands_at place (rows_by rows z))) (drop_all i ps h) ∙ rw (append-nil, or-false all.marked) refl
+
+pub ruleset operands = (reading_begun, operand_here, no_operand_here, all_read)
 
 -- ---- how many rows there are
 
@@ -76,58 +100,66 @@ module _ (rows : List Row) where
 
 pub ruleset counting = (row_here, missing_here, none_left)
 
+-- ---- rows with a value for each column
+
+abbrev Long : List ScopeColumn → Row → Type 0
+Long columns r = length r.values ≡ length columns
+
+rows_long : (columns : List ScopeColumn) (rows : List Row) → IsTrue (rows_fit (bare_columns columns) rows) → Each (Long columns) rows
+rows_long columns rows e =
+    each_more (Good columns) (Long columns) (λ r g. (good_parts columns r g).0 ∙ length-map columns (λ c. c.column)) rows
+    (all_of (row_fits (bare_columns columns)) rows e)
+
+-- what holds of each row holds of those at places
+each_by : (P : Row → Type 0) (rows : List Row) (ps : List ℕ) → Each P rows → Each P (rows_by rows ps)
+each_by P rows [] e = tt
+each_by P rows (p ∷ ps) e = on (slice_get rows p) refl (each_by P rows ps e)
+  where
+    got : (xs : List Row) (i : ℕ) (r : Row) → Each P xs → slice_get xs i ≡ Some r → P r
+    got [] i r h k = cc
+    got (x ∷ xs) zero r h k = let same : x ≡ r = cc in subst P same h.0
+    got (x ∷ xs) (suc i) r h k = got xs i r h.1 k
+
+    on : (o : Option Row) → slice_get rows p ≡ o → Each P (rows_by rows ps) → Each P (cons_option o (rows_by rows ps))
+    on None is rest = rest
+    on (Some r) is rest = (got rows p r e is, rest)
+
+there : {X : Type 0} (xs : List X) (i : ℕ) → i < length xs → (x : X) × (slice_get xs i ≡ Some x)
+there [] i h = absurd (omega (arith, h))
+there (x ∷ xs) zero h = (x, refl)
+there (x ∷ xs) (suc i) h = there xs i (omega (arith, h))
+
 -- ---- what the operands are
 
-or_assoc : (a b c : Bool) → a || (b || c) ≡ (a || b) || c
-or_assoc true b c = refl
-or_assoc false b c = refl
-
-fits_and_is : (b : Bool) (o : Option Marked) (m : Marked) → (if b then o else None) ≡ Some m → (b ≡ true) × (o ≡ Some m)
-fits_and_is true o m e = (refl, e)
-fits_and_is false o m e = absurd (wrong e)
-  where
-    wrong : None ≡ Some m → ⊥
-    wrong z = cc
-
-module _ (columns : List ScopeColumn) (place : ℕ) (e : Expr) (reads : ReadsPlace columns place e) (picks : List Pick) (cell : ℕ) where
+module _ (columns : List ScopeColumn) (place : ℕ) (e : Expr) (reads : ReadsPlace columns place e) (within : place < length columns) (picks : List Pick) (cell : ℕ) where
   abbrev at : List Binding → Seen Value
   at b = marked_at (at_row b) picks cell e
 
-  read_from : (rows : List Row) (o all : Operands) (k : List Value → Answer Value) → operands_from (length columns) place o rows ≡ Some all →
-      after o.marked (all_marked (map at (bound_rows columns rows)) o.values k) ≡ record { marked = all.marked; answer = k all.values }
-  read_from [] o all k h = rw (sym (same h)) (λ i. record { marked = or-false o.marked i; answer = k o.values })
-    where
-      same : Some o ≡ Some all → o ≡ all
-      same z = cc
-  read_from (r ∷ rows) o all k h = on (value_in (length columns) place r) refl h (λ p z. read_from rows p all k z)
-    where
-      on : (v : Option Marked) → value_in (length columns) place r ≡ v →
-          operand_then o v (λ more. operands_from (length columns) place more rows) ≡ Some all →
-          ((p : Operands) → operands_from (length columns) place p rows ≡ Some all →
-          after p.marked (all_marked (map at (bound_rows columns rows)) p.values k) ≡ record { marked = all.marked; answer = k all.values }) →
-          after o.marked (all_marked (map at (bound_rows columns (r ∷ rows))) o.values k) ≡ record { marked = all.marked; answer = k all.values }
-      on None is z more = absurd (wrong z)
-        where
-          wrong : None ≡ Some all → ⊥
-          wrong y = cc
-      on (Some m) is z more =
-          let p = fits_and_is (nat_eq (length r.values) (length columns)) (slice_get r.values place) m is in
-          let here : at (bindings columns r.values) ≡ seen m = reads r.values picks cell m (eqb-true (length r.values) (length columns) p.0) p.1 in
-          ap (λ s. after o.marked (seen_then s (λ v. all_marked (map at (bound_rows columns rows)) (o.values ++ v ∷ []) k))) here
-          ∙ (λ i. record {
-            marked = or_assoc o.marked m.marked (all_marked (map at (bound_rows columns rows)) (o.values ++ m.value ∷ []) k).marked i;
-            answer = (all_marked (map at (bound_rows columns rows)) (o.values ++ m.value ∷ []) k).answer;
-          })
-          ∙ more (with_operand o m) z
+  -- what is made of operands
+  abbrev made_of : (List Value → Answer Value) → Operands → Seen Value
+  made_of k all = record { marked = all.marked; answer = k all.values }
+
+  read_all : (rows : List Row) (o : Operands) (k : List Value → Answer Value) → Each (Long columns) rows →
+      after o.marked (all_marked (map at (bound_rows columns rows)) o.values k) ≡ made_of k (more_operands o (operands_at place rows))
+  read_all [] o k long = rw append-nil refl
+  read_all (r ∷ rows) o k long =
+      let found = there r.values place (omega (arith, within, long.0)) in
+      let m = found.0 in
+      let rest = all_marked (map at (bound_rows columns rows)) (o.values ++ m.value ∷ []) k in
+      ap (λ s. after o.marked (seen_then s (λ v. all_marked (map at (bound_rows columns rows)) (o.values ++ v ∷ []) k))) (reads r.values picks cell m long.0 found.1)
+      ∙ ((λ i. record { marked = sym (or_assoc o.marked m.marked rest.marked) i; answer = rest.answer })
+      ∙ (read_all rows (with_operand o m) k long.1 ∙ ap (made_of k) (sym (one_more place o r rows m found.1))))
 
 -- an aggregate of a column, from the values at its place
-pub over_reads : (job : Job) (g : Lot) (op : Aggregate) (e : Expr) (place : ℕ) (all : Operands) → ReadsPlace job.rel.now.columns place e →
-    operands_at (length job.rel.now.columns) place (rows_by job.rel.now.rows g.rows) ≡ Some all →
+pub over_reads : (job : Job) (g : Lot) (op : Aggregate) (e : Expr) (place : ℕ) → ReadsPlace job.rel.now.columns place e → place < length job.rel.now.columns →
+    IsRel job.rel.now → (all : Operands) → all ≡ operands_at place (rows_by job.rel.now.rows g.rows) →
     over_in op job g e ≡ marked_value (record { marked = job.uncertain || all.marked; answer = aggregate_of op all.values })
 unfolding over_at
-over_reads job g op e place all reads h =
+over_reads job g op e place reads within is all are =
     ap (λ s. marked_value (after job.uncertain s))
-    (read_from job.rel.now.columns place e reads job.picks.now job.cell (rows_by job.rel.now.rows g.rows) (record { values = []; marked = false }) all (aggregate_of op) h)
+    (read_all job.rel.now.columns place e reads within job.picks.now job.cell (rows_by job.rel.now.rows g.rows) (record { values = []; marked = false }) (aggregate_of op)
+    (each_by (Long job.rel.now.columns) job.rel.now.rows g.rows (rows_long job.rel.now.columns job.rel.now.rows is.rules.fitting)))
+    ∙ ap (λ o. marked_value (record { marked = job.uncertain || o.marked; answer = aggregate_of op o.values })) (sym are)
 
 -- where the aggregate of these values fails, that of the column does
 pub over_fails : (job : Job) (op : Aggregate) (all : Operands) (f : EvalFault) (a : Answer Marked) →

@@ -15,10 +15,10 @@ use Rattle.relations.specs.Shown.{ShownRel, SameShown, sure_rows, shown_rel}
 use Rattle.relations.proofs.Rules.{or_parts, all_of, all_from}
 use Rattle.relations.proofs.Sames.{same_from, same_back, same_on, in_order, by_ids, shown_distinct as shown_apart, with_rows, KeepsSame}
 use Rattle.rel_ops.proofs.SameLaws.{keeps_shown}
-use Rattle.rel_ops.specs.Project.{columns_in}
+use Rattle.rel_ops.specs.Project.{item_columns, columns_in}
 use Rattle.rel_group.specs.Keys.{ascending}
 use Rattle.rel_group.specs.Groups.{has_marked_key, is_uncertain, group_types}
-use Rattle.rel_group.specs.Group.{group_columns, grouped, distinct}
+use Rattle.rel_group.specs.Group.{grouped, distinct}
 use Rattle.rel_group.specs.Shown.{KnownGroup, shown_key, is_key, shown_uncertain, shown_group_of, shown_keyed, shown_groups, shown_may_lack, known_group_setting, known_having, shown_group_row, shown_grouped, shown_distinct}
 use Rattle.rel_group.specs.Laws.{IsTyped, GroupKeepsShown, DistinctKeepsShown}
 use Rattle.rel_group.proofs.KeyOrder.{Key, same_ascending}
@@ -73,7 +73,7 @@ module _ (s : ShownRel) (rows : List ShownRow) (m : Moved s.rows rows) where
       let gs = groups_unknown places e in
       let lacks = lack_moved places in
       λ i. record {
-        columns = columns_in (group_columns (group_types s.columns places) items);
+        columns = columns_in (item_columns (group_types s.columns places) items);
         rows = flat_map (shown_group_row setting having items) (gs i);
         is_open = lacks i || list_any (λ g. is_none (known_having having (setting g))) (gs i);
         is_loose = false;

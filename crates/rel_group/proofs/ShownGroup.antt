@@ -29,12 +29,12 @@ use Rattle.relations.specs.Shown.{SameShown, sure_rows, shown_rel}
 use Rattle.relations.proofs.Binds.{binds_known}
 use Rattle.relations.proofs.Gathered.{fine, the_same, then_ok, whole_ok, all_shown, sure_is, show_row, ShowsAs, Each}
 use Rattle.relations.proofs.Sames.{same_from}
-use Rattle.rel_ops.specs.Project.{marked_value, value_known, columns_in}
+use Rattle.rel_ops.specs.Project.{item_columns, marked_value, value_known, columns_in}
 use Rattle.rel_group.specs.Groups.{Group}
 use Rattle.rel_group.specs.Group.{Tested}
 use Rattle.rel_group.specs.Keys.{once}
 use Rattle.rel_group.specs.Groups.{is_uncertain, keyed_groups, groups, may_lack_groups, key_columns, certain, group_setting, group_types}
-use Rattle.rel_group.specs.Group.{group_columns, passed, having_test, tested, group_value, group_values, row_of, group_row, group_rows, rows_of, grouped_to, grouped, key_row}
+use Rattle.rel_group.specs.Group.{passed, having_test, tested, group_value, group_values, row_of, group_row, group_rows, rows_of, grouped_to, grouped, key_row}
 use Rattle.rel_group.specs.Shown.{KnownGroup, shown_groups, known_group_setting, known_having, shown_group_row, shown_grouped, shown_distinct}
 use Rattle.rel_group.specs.Laws.{GroupShows, DistinctShows}
 use Rattle.rel_group.proofs.GroupFits.{each_back, groups_sure}
@@ -206,12 +206,12 @@ group_shows_of places having items picks cell rel out sure e =
     let other = known_group_setting rel.columns places in
     let lacks = may_lack_groups places rel in
     let mark_of = λ (g : KnownGroup). is_none (known_having having (other g)) in
-    let c = then_ok (group_columns (group_types rel.columns places) items) (λ columns. grouped_to columns rel places having items picks cell) out e in
+    let c = then_ok (item_columns (group_types rel.columns places) items) (λ columns. grouped_to columns rel places having items picks cell) out e in
     let p = then_ok (rows_of rel places having items picks cell) (λ b. whole (rel_of c.0 b.rows (lacks || b.marked) false)) out c.2 in
     let s = rows_show setting having items picks cell uncertain lacks other (setting_known rel.columns places uncertain)
     (groups rel.columns places rel.rows) p.0 (unsure_lacks rel sure places) p.1 in
     let gs = groups_show rel sure places in
-    let columns : c.0 ≡ columns_in (group_columns (group_types rel.columns places) items) = ap columns_in (sym c.1) in
+    let columns : c.0 ≡ columns_in (item_columns (group_types rel.columns places) items) = ap columns_in (sym c.1) in
     let rows = s.0 ∙ ap (flat_map (shown_group_row other having items)) gs in
     let opens = s.1 ∙ (ap (λ z. lacks || list_any mark_of z) gs ∙ ap (λ l. l || list_any mark_of (shown_groups places (shown_rel rel))) (lack_shows rel sure places)) in
     subst (λ z. SameShown (shown_rel z) (shown_grouped (shown_rel rel) places having items)) (whole_ok _ out p.2)

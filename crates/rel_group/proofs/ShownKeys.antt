@@ -1,5 +1,6 @@
 -- The keys and the groups of what is shown.
 use Rattle.std.proofs.Common.{◌≡◌, ℕ, Bool, true, false, not, ◌&&◌, ◌||◌, Option, Some, List, [], ◌∷◌, ◌++◌, map, filter, cond, refl, subst, ap, ◌∙◌, sym, inl, inr}
+use Rattle.std.proofs.lemmas.Bool.{and_parts}
 use Rattle.std.proofs.Math.Bool.{or-true}
 use Rattle.std.specs.Prelude.{is_none, option_map, IsTrue}
 use Rattle.std.specs.List.{cons_option, filter_map, flat_map, list_any}
@@ -27,10 +28,6 @@ use Rattle.rel_group.proofs.Natural.{key_map}
 use Rattle.rel_group.proofs.GroupFits.{each_filter}
 
 -- ---- keys
-
-and_parts : (a b : Bool) → IsTrue (a && b) → IsTrue a × IsTrue b
-and_parts true b e = (refl, e)
-and_parts false b e = cc
 
 known_all : (ms : List Marked) → all_known (map shown_value ms) ≡ unless_marked (list_any (λ m. m.marked) ms) (map (λ m. m.value) ms)
 known_all [] = refl

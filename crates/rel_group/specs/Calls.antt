@@ -1,5 +1,5 @@
 -- What the functions promise each other: rows with their keys, and how they are put into lots, which stand for groups.
-use Rattle.std.specs.Prelude.{◌≡◌, ℕ, suc, Bool, true, false, ◌||◌, ◌+◌, nat_eq, if◌then◌else◌, Option, Some, None, Result, Ok, Err, List, [], ◌∷◌, ◌++◌, length, map, slice_get}
+use Rattle.std.specs.Prelude.{◌≡◌, ℕ, suc, Bool, true, false, ◌||◌, ◌+◌, if◌then◌else◌, Option, Some, None, Result, Ok, Err, List, [], ◌∷◌, ◌++◌, map, slice_get}
 use Rattle.std.specs.List.{list_any, filter_map}
 use Rattle.std.specs.Ordering.{is_lt, is_gt}
 use Rattle.std.specs.declared.cmp.Ordering.{Ordering}
@@ -29,10 +29,10 @@ use Rattle.rel_group.specs.declared.parts.TestedLot.{TestedLot}
 use Rattle.rel_group.specs.declared.keyed.Keyed.{Keyed}
 use Rattle.rel_group.specs.declared.job.Job.{Job}
 use Rattle.rel_group.specs.declared.reading.Operands.{Operands}
-use Rattle.rel_ops.specs.Project.{marked_value}
+use Rattle.rel_ops.specs.Project.{item_columns, marked_value}
 use Rattle.rel_group.specs.Keys.{key_cmp, ascending, rows_at}
 use Rattle.rel_group.specs.Groups.{Group, key_values, key_columns, is_certain, is_uncertain, bound_rows, groups, certain, setting_under, group_types}
-use Rattle.rel_group.specs.Group.{Tested, group_columns, condition_test, having_test, group_value, group_values, group_row, rows_of, grouped_to}
+use Rattle.rel_group.specs.Group.{Tested, condition_test, having_test, group_value, group_values, group_row, rows_of, grouped_to}
 
 -- a row as it is grouped: its place, which counts from 0, with its key
 abbrev pub with_key : Option (List ℕ) → ℕ → Row → Keyed
@@ -101,9 +101,9 @@ placed [] x = single x ∷ []
 placed (g ∷ gs) x = placed_by (key_cmp x.key g.key) g gs x (placed gs x)
 
 -- how many lots come before a key
-abbrev pub place_of : List Value → List Lot → ℕ
-place_of k [] = 0
-place_of k (g ∷ gs) = if is_gt (key_cmp k g.key) then suc (place_of k gs) else 0
+abbrev pub lots_before : List Value → List Lot → ℕ
+lots_before k [] = 0
+lots_before k (g ∷ gs) = if is_gt (key_cmp k g.key) then suc (lots_before k gs) else 0
 
 -- whether there is a lot and it has this key
 abbrev pub is_of_key : Option Lot → List Value → Bool
@@ -156,12 +156,14 @@ abbrev pub key_lt : Keyed → Keyed → Bool
 key_lt a b = is_lt (key_cmp a.key b.key)
 
 -- a job whose column places are those of its relation
-abbrev pub HasPlaces : Job → Type 0
-HasPlaces job = job.column_places.now ≡ job.rel.now.columns
+abbrev pub HasColumnPlaces : Job → Type 0
+HasColumnPlaces job = job.column_places.now ≡ job.rel.now.columns
 
 -- a job whose columns, doubts and column places are those of its relation
-abbrev pub IsOf : Job → Type 0
-IsOf job = (job.columns.now ≡ key_columns job.rel.now.columns job.places.now) × (job.uncertain ≡ is_uncertain (Some job.places.now) job.rel.now) × HasPlaces job
+pub record IsOf (job : Job) : Type 0 where
+  pub columns : job.columns.now ≡ key_columns job.rel.now.columns job.places.now
+  pub uncertain : job.uncertain ≡ is_uncertain (Some job.places.now) job.rel.now
+  pub places : HasColumnPlaces job
 
 -- the group that a lot of a job stands for
 abbrev pub bound_in : Job → Lot → Group
@@ -213,7 +215,7 @@ rows_in job having items = rows_of job.rel.now job.places.now having items job.p
 
 -- the types of a job's items
 abbrev pub columns_in : Job → List Item → Answer (List ScopeColumn)
-columns_in job items = group_columns (group_types job.rel.now.columns job.places.now) items
+columns_in job items = item_columns (group_types job.rel.now.columns job.places.now) items
 
 -- the rows of the groups of a job under the output columns
 abbrev pub grouped_in : Job → List ScopeColumn → Option Expr → List Item → Answer RelData
@@ -232,31 +234,34 @@ abbrev pub expr_in : Job → Lot → Expr → Answer Marked
 expr_in job g e = marked_value (marked_at (setting_in job (bound_in job g)) job.picks.now job.cell e)
 
 -- the value of an item over that group
-abbrev pub item_at : Job → Lot → Item → Answer Marked
-item_at job g i = expr_in job g i.expr
+abbrev pub item_over : Job → Lot → Item → Answer Marked
+item_over job g i = expr_in job g i.expr
 
 -- an aggregate of an expression over that group
 abbrev pub over_in : Aggregate → Job → Lot → Expr → Answer Marked
 over_in op job g e = marked_value (over_at op (setting_in job (bound_in job g)) job.picks.now job.cell e)
 
--- the value at a place, which counts from 0, of a row that has so many
-abbrev pub value_in : ℕ → ℕ → Row → Option Marked
-value_in width place r = if nat_eq (length r.values) width then slice_get r.values place else None
+-- the value at a place, which counts from 0, of a row, where there is one
+abbrev pub value_of : ℕ → Option Row → Option Marked
+value_of place None = None
+value_of place (Some r) = slice_get r.values place
+
+-- the values at a place of the rows that have one there
+abbrev pub read_at : ℕ → List Row → List Marked
+read_at place rows = filter_map (λ r. slice_get r.values place) rows
+
+-- marked values as operands: the values, and whether one of them is marked
+abbrev pub operands_of : List Marked → Operands
+operands_of ms = record { values = map (λ m. m.value) ms; marked = list_any (λ m. m.marked) ms }
+
+-- the operands at a place of these rows
+abbrev pub operands_at : ℕ → List Row → Operands
+operands_at place rows = operands_of (read_at place rows)
 
 -- one operand more
 abbrev pub with_operand : Operands → Marked → Operands
 with_operand all m = record { values = all.values ++ m.value ∷ []; marked = all.marked || m.marked }
 
--- what comes after one operand more, where there is one
-abbrev pub operand_then : Operands → Option Marked → (Operands → Option Operands) → Option Operands
-operand_then all None next = None
-operand_then all (Some m) next = next (with_operand all m)
-
--- these operands, and then the values at a place of rows that have so many, or none where a row has not
-abbrev pub operands_from : ℕ → ℕ → Operands → List Row → Option Operands
-operands_from width place all [] = Some all
-operands_from width place all (r ∷ rs) = operand_then all (value_in width place r) (λ more. operands_from width place more rs)
-
--- the values at a place of rows that have so many
-abbrev pub operands_at : ℕ → ℕ → List Row → Option Operands
-operands_at width place rows = operands_from width place (record { values = []; marked = false }) rows
+-- operands, and others after them
+abbrev pub more_operands : Operands → Operands → Operands
+more_operands a b = record { values = a.values ++ b.values; marked = a.marked || b.marked }

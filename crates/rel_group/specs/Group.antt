@@ -9,25 +9,14 @@ use Rattle.expr_lang.specs.declared.expr.Expr.{Expr}
 use Rattle.expr_meaning.specs.declared.bindings.ScopeColumn.{ScopeColumn}
 use Rattle.expr_meaning.specs.Settings.{MarkedSetting}
 use Rattle.expr_meaning.specs.Meaning.{marked_at}
-use Rattle.expr_meaning.specs.Types.{TypeSetting, type_at}
 use Rattle.relations.specs.declared.batch.Batch.{Batch}
 use Rattle.relations.specs.declared.condition.Test.{Test}
 use Rattle.relations.specs.declared.parts.Item.{Item}
 use Rattle.relations.specs.Rels.{RelData, rel_of, whole}
 use Rattle.relations.specs.Batches.{gathered}
 use Rattle.relations.specs.Conditions.{test_of, kept}
-use Rattle.rel_ops.specs.Project.{output_column, marked_value}
+use Rattle.rel_ops.specs.Project.{item_columns, marked_value}
 use Rattle.rel_group.specs.Groups.{Group, keyed_groups, groups, is_uncertain, may_lack_groups, certain, group_setting, group_types}
-
--- ---- output columns
-
--- the output column of an item
-abbrev pub group_column : TypeSetting → Item → Answer ScopeColumn
-group_column types i = and_then (type_at types i.expr) (λ t. Ok (output_column i.name t))
-
--- the output columns, or the first error of types
-abbrev pub group_columns : TypeSetting → List Item → Answer (List ScopeColumn)
-group_columns types items = collect (group_column types) items
 
 -- ---- HAVING
 
@@ -93,7 +82,7 @@ grouped_to columns rel places having items picks cell =
 -- the columns first, then the rows of the groups
 abbrev pub grouped : RelData → List ℕ → Option Expr → List Item → List Pick → ℕ → Answer RelData
 grouped rel places having items picks cell =
-    and_then (group_columns (group_types rel.columns places) items) (λ columns. grouped_to columns rel places having items picks cell)
+    and_then (item_columns (group_types rel.columns places) items) (λ columns. grouped_to columns rel places having items picks cell)
 
 -- ---- DISTINCT
 

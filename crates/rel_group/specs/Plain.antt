@@ -13,9 +13,9 @@ use Rattle.expr_meaning.specs.Meaning.{plain_meaning}
 use Rattle.relations.specs.declared.parts.Item.{Item}
 use Rattle.relations.specs.Bound.{plain_bindings}
 use Rattle.relations.specs.Plain.{PlainRel, listed, plain_whole}
+use Rattle.rel_ops.specs.Project.{item_columns}
 use Rattle.rel_group.specs.Keys.{key_of, once, ascending, rows_at}
 use Rattle.rel_group.specs.Groups.{key_columns, group_types}
-use Rattle.rel_group.specs.Group.{group_columns}
 
 -- the rows of one key
 pub record PlainGroup : Type 0 where
@@ -72,7 +72,7 @@ plain_group_rows setting having items picks cell gs =
 -- the columns first, then the rows of the groups
 abbrev pub plain_grouped : PlainRel → List ℕ → Option Expr → List Item → List Pick → ℕ → Answer PlainRel
 plain_grouped rel places having items picks cell =
-    and_then (group_columns (group_types rel.columns places) items) (λ columns.
+    and_then (item_columns (group_types rel.columns places) items) (λ columns.
     and_then (plain_group_rows (plain_group_setting rel.columns places) having items picks cell (plain_groups rel.columns places rel.rows)) (λ rows.
     plain_whole (record { columns = columns; rows = rows })))
 

@@ -16,10 +16,9 @@ use Rattle.relations.specs.declared.parts.Item.{Item}
 use Rattle.relations.specs.Bound.{known_bindings}
 use Rattle.relations.specs.Conditions.{kept_if, holds}
 use Rattle.relations.specs.Shown.{ShownRel}
-use Rattle.rel_ops.specs.Project.{value_known, columns_in}
+use Rattle.rel_ops.specs.Project.{item_columns, value_known, columns_in}
 use Rattle.rel_group.specs.Keys.{key_of, once, ascending}
 use Rattle.rel_group.specs.Groups.{key_columns, group_types}
-use Rattle.rel_group.specs.Group.{group_columns}
 
 -- all of these values, where each is known
 abbrev pub all_known : List (Option Value) → Option (List Value)
@@ -86,7 +85,7 @@ abbrev pub shown_grouped : ShownRel → List ℕ → Option Expr → List Item �
 shown_grouped rel places having items =
     let setting = known_group_setting rel.columns places in
     let gs = shown_groups places rel in record {
-      columns = columns_in (group_columns (group_types rel.columns places) items);
+      columns = columns_in (item_columns (group_types rel.columns places) items);
       rows = flat_map (shown_group_row setting having items) gs;
       is_open = shown_may_lack places rel || list_any (λ g. is_none (known_having having (setting g))) gs;
       is_loose = false;

@@ -7,9 +7,9 @@ ghost use Rattle.rel_ops.specs.Project.{item_names};
 ghost use Rattle.rel_group.specs.Group as spec;
 ghost use Rattle.rel_group.specs.Groups as groups;
 ghost use Rattle.rel_group.specs.Keys.{are_places};
-ghost use Rattle.rel_group.specs.Calls.{IsOf, HasPlaces, columns_in, group_rows_in, grouped_in, rows_in};
+ghost use Rattle.rel_group.specs.Calls.{IsOf, HasColumnPlaces, columns_in, group_rows_in, grouped_in, rows_in};
 
-use crate::columns::{group_columns, key_columns};
+use crate::columns::key_columns;
 use crate::cutting::lots;
 use crate::having::all_tested;
 use crate::items::all_rows;
@@ -20,6 +20,7 @@ use cell_errors::EvalFault;
 use dataset_types::Picks;
 use expr_lang::Expr;
 use expr_meaning::{Scope, TypedSetting};
+use rel_ops::item_columns;
 use relations::{Batch, ColumnPlaces, ColumnRefs, Item, Items, Rel};
 use std::alloc::Global;
 
@@ -30,7 +31,7 @@ fn group_rows(
     job: Job,
     lots: Lots,
 ) -> Result<Batch, EvalFault>
-    requires places { HasPlaces job }
+    requires places { HasColumnPlaces job }
     ensures { Gives result
         (group_rows_in job.entry (option_copied having.entry) items.now lots) }
 {
@@ -92,7 +93,7 @@ pub fn group(
         columns: &of_key,
         group: Some(rel.columns()),
     };
-    let columns = group_columns(alloc, &types, items.as_slice())?;
+    let columns = item_columns(alloc, &types, items.as_slice())?;
     let column_places = ColumnPlaces::new(alloc, rel.columns().as_slice())?;
     let job = Job {
         rel,

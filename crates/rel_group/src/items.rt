@@ -4,7 +4,7 @@ ghost use Rattle.cell_errors.specs.Answers.{Gives};
 ghost use Rattle.relations.specs.Batches.{gathered};
 ghost use Rattle.relations.specs.Conditions.{kept};
 ghost use Rattle.rel_group.specs.Calls as calls;
-ghost use Rattle.rel_group.specs.Calls.{HasPlaces, bound_in, item_in, items_in, key_bindings, lot_row};
+ghost use Rattle.rel_group.specs.Calls.{HasColumnPlaces, bound_in, item_in, items_in, key_bindings, lot_row};
 
 use crate::binding::bound_lot;
 use crate::having::key_row;
@@ -61,7 +61,7 @@ fn values_over(
 
 /// The values of the items. The rows of the lot are bound only where an item can't be read without.
 fn values_in(alloc: Global, items: &[Item], lot: &Lot, job: &Job) -> Result<MarkedValues, EvalFault>
-    requires places { HasPlaces job.now }
+    requires places { HasColumnPlaces job.now }
     ensures { Gives result (calls.values_in job.now items.now (bound_in job.now lot.now)) }
 {
     let row = key_row(alloc, job, lot)?;
@@ -95,7 +95,7 @@ fn group_row(
     tested: &TestedLot,
     job: &Job,
 ) -> Result<Batch, EvalFault>
-    requires places { HasPlaces job.now }
+    requires places { HasColumnPlaces job.now }
     ensures { Gives result (calls.row_in job.now items.now tested.now) }
 {
     if !tested.test.holds {
@@ -117,7 +117,7 @@ pub fn all_rows(
     lots: &[TestedLot],
     job: &Job,
 ) -> Result<Batch, EvalFault>
-    requires places { HasPlaces job.now }
+    requires places { HasColumnPlaces job.now }
     ensures { Gives result (gathered (calls.row_in job.now items.now) lots.now) }
 {
     let mut all = Batch::new(alloc)?;

@@ -16,8 +16,8 @@ const FEW: usize = 32;
 
 /// How many lots come before a key.
 #[tactic(auto, using(crate::proofs::Placed::passing))]
-fn place_of(lots: &[Lot], key: &[Value]) -> usize
-    ensures { result ≡ calls.place_of key.now lots.now }
+fn lots_before(lots: &[Lot], key: &[Value]) -> usize
+    ensures { result ≡ calls.lots_before key.now lots.now }
 {
     for i in 0..lots.len() {
         if !compare_keys(key, lots[i].key.as_slice()).is_gt() {
@@ -65,7 +65,7 @@ fn add_row(alloc: Global, lot: &mut Lot, row: Keyed) -> Result<(), NoMemory>
 fn put_row(alloc: Global, lots: &mut Vec<Lot>, row: Keyed) -> Result<(), NoMemory>
     ensures { OnOk result (lots.new.items ≡ placed lots.old.items row) }
 {
-    let at = place_of(lots.as_slice(), row.key.as_slice());
+    let at = lots_before(lots.as_slice(), row.key.as_slice());
     if has_key(lots.as_slice(), at, &row.key) {
         add_row(alloc, &mut lots[at], row)
     } else {

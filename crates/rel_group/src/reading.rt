@@ -1,11 +1,11 @@
 //! Items that are read at their places, for which no row of a group is bound.
-ghost use Rattle.std.specs.Prelude.{◌≡◌, IfOk, Ok, OnOk, length, pos};
+ghost use Rattle.std.specs.Prelude.{◌≡◌, IfOk, Ok, OnOk, length, pos, slice_get};
 ghost use Rattle.std.specs.Option.{option_copied};
 ghost use Rattle.value_types.specs.declared.value.Value.TheVariants.{Int};
 ghost use Rattle.expr_lang.specs.declared.expr.Expr.{CountAll};
 ghost use Rattle.rel_group.specs.Calls as calls;
-ghost use Rattle.rel_group.specs.Calls.{HasPlaces, MayGive, bound_in, expr_in, key_bindings};
-ghost use Rattle.rel_group.specs.Calls.{operands_at, over_in, rows_by, with_operand};
+ghost use Rattle.rel_group.specs.Calls.{HasColumnPlaces, MayGive, bound_in, expr_in, key_bindings};
+ghost use Rattle.rel_group.specs.Calls.{operands_at, over_in, rows_by, value_of, with_operand};
 
 use crate::binding::row_at;
 use crate::job::Job;
@@ -26,15 +26,13 @@ pub struct Operands {
     pub marked: bool,
 }
 
-/// The value at a place, counted from 0, of a row that has so many.
-fn value_in(width: usize, place: usize, row: &Row) -> Option<&Marked>
-    ensures { option_copied result ≡ calls.value_in width place row.now }
+/// The value at a place of the row at another. Places count from 0.
+fn operand_at(rows: &[Row], place: usize, at: usize) -> Option<&Marked>
+    ensures { option_copied result ≡ value_of place (slice_get rows.now at) }
 {
-    let values = row.values.as_slice();
-    if values.len() == width {
-        values.get(place)
-    } else {
-        None
+    match row_at(rows, at) {
+        None => None,
+        Some(row) => row.values.as_slice().get(place),
     }
 }
 
@@ -46,31 +44,27 @@ fn add_operand(alloc: Global, all: &mut Operands, operand: &Marked) -> Result<()
     Ok(())
 }
 
-/// The values at a place of the rows of a group, or none where a row hasn't so many values.
+/// The values at a place of the rows of a group.
 #[tactic(auto, using(crate::proofs::ReadLots::operands))]
 fn read_operands(
     alloc: Global,
-    width: usize,
     place: usize,
     rows: &[Row],
     of_group: &[usize],
-) -> Result<Option<Operands>, NoMemory>
+) -> Result<Operands, NoMemory>
     ensures { IfOk result
-        (λ found. found ≡ operands_at width place (rows_by rows.now of_group.now)) }
+        (λ all. all ≡ operands_at place (rows_by rows.now of_group.now)) }
 {
     let mut all = Operands {
         values: Values::new(alloc)?,
         marked: false,
     };
     for at in of_group {
-        if let Some(row) = row_at(rows, *at) {
-            match value_in(width, place, row) {
-                None => return Ok(None),
-                Some(operand) => add_operand(alloc, &mut all, operand)?,
-            }
+        if let Some(operand) = operand_at(rows, place, *at) {
+            add_operand(alloc, &mut all, operand)?;
         }
     }
-    Ok(Some(all))
+    Ok(all)
 }
 
 /// An aggregate, where its operand is a column.
@@ -81,20 +75,20 @@ fn over_column(
     lot: &Lot,
     job: &Job,
 ) -> Result<Option<Marked>, EvalFault>
-    requires places { HasPlaces job.now }
+    requires places { HasColumnPlaces job.now }
     ensures { MayGive result (over_in op job.now lot.now of.now) }
 {
-    let rows = job.rel.rows().as_slice();
-    let width = job.rel.columns().len();
+    job.rel.law_of_rules();
     match job.column_places.column_place(of) {
         None => Ok(None),
-        Some(place) => match read_operands(alloc, width, place, rows, lot.rows.as_slice())? {
-            None => Ok(None),
-            Some(all) => Ok(Some(Marked {
+        Some(place) => {
+            let rows = job.rel.rows().as_slice();
+            let all = read_operands(alloc, place, rows, lot.rows.as_slice())?;
+            Ok(Some(Marked {
                 value: aggregated(alloc, op, all.values)?,
                 marked: job.uncertain | all.marked,
-            })),
-        },
+            }))
+        }
     }
 }
 
@@ -132,7 +126,7 @@ fn read_value(
     lot: &Lot,
     job: &Job,
 ) -> Result<Option<Marked>, EvalFault>
-    requires places { HasPlaces job.now }
+    requires places { HasColumnPlaces job.now }
     requires row { row.now ≡ key_bindings job.now lot.now }
     ensures { MayGive result (expr_in job.now lot.now expr.now) }
 {
@@ -156,7 +150,7 @@ pub fn read_values(
     lot: &Lot,
     job: &Job,
 ) -> Result<Option<MarkedValues>, EvalFault>
-    requires places { HasPlaces job.now }
+    requires places { HasColumnPlaces job.now }
     requires row { row.now ≡ key_bindings job.now lot.now }
     ensures { MayGive result (calls.values_in job.now items.now (bound_in job.now lot.now)) }
 {
