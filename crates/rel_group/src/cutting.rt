@@ -8,7 +8,7 @@ ghost use Rattle.rel_group.specs.Calls.{all_collected, rows_by};
 use crate::keyed::{Keyed, keyed_rows};
 use crate::keys::compare_keys;
 use crate::parts::{Lot, Lots};
-use crate::placing::{begin, few_lots};
+use crate::placing::{add_row, begin, few_lots};
 use dataset_types::Row;
 use std::alloc::Global;
 use value_types::{ListOf, NoMemory, Values};
@@ -23,17 +23,9 @@ fn sort_rows(rows: &mut Vec<Keyed>) -> Result<(), NoMemory>
 fn go_on(alloc: Global, lot: Lot, row: Keyed) -> Result<Lot, NoMemory>
     ensures { IfOk result (λ g. g ≡ with_row lot row) }
 {
-    let Lot {
-        key,
-        sure,
-        mut rows,
-    } = lot;
-    rows.push(alloc, row.row)?;
-    Ok(Lot {
-        key,
-        sure: sure | row.certain,
-        rows,
-    })
+    let mut lot = lot;
+    add_row(alloc, &mut lot, row)?;
+    Ok(lot)
 }
 
 /// The last lot with one row more, or the lot that the row begins.

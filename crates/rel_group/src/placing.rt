@@ -52,7 +52,7 @@ pub fn begin(alloc: Global, row: Keyed) -> Result<Lot, NoMemory>
 }
 
 /// A row more in its lot.
-fn add_row(alloc: Global, lot: &mut Lot, row: Keyed) -> Result<(), NoMemory>
+pub fn add_row(alloc: Global, lot: &mut Lot, row: Keyed) -> Result<(), NoMemory>
     ensures { OnOk result (lot.new ≡ with_row lot.old row) }
 {
     let Keyed { certain, row, .. } = row;
