@@ -1,5 +1,5 @@
 -- The loop of the items over the rows.
-use Rattle.std.proofs.Common.{◌≡◌, ℕ, ◌+◌, ◌<◌, ◌||◌, Bool, true, false, length, drop, get_or, Ok, List, refl}
+use Rattle.std.proofs.Common.{◌≡◌, ℕ, ◌+◌, ◌<◌, length, drop, get_or, Ok, List, refl}
 use Rattle.std.proofs.Math.Bool.{or-false}
 use Rattle.dataset_types.specs.declared.picks.Pick.{Pick}
 use Rattle.dataset_types.specs.declared.row.Marked.{Marked}

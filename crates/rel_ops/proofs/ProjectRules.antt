@@ -1,8 +1,9 @@
 -- The output columns of items, and the rules of the rows that items give.
-use Rattle.std.proofs.Common.{◌≡◌, ℕ, suc, Bool, true, false, ◌&&◌, Option, None, Ok, List, [], ◌∷◌, map, length, refl, subst, ap, ◌∙◌, sym, inr}
+use Rattle.std.proofs.Common.{◌≡◌, ℕ, suc, Bool, true, false, Option, None, Ok, List, [], ◌∷◌, map, length, refl, subst, ap, ◌∙◌, sym, inr}
 use Rattle.std.specs.Prelude.{IsTrue, ◌==◌}
 use Rattle.std.specs.List.{list_all}
 use Rattle.std.proofs.lemmas.Bool.Decides.{Decides-eqb}
+use Rattle.std.proofs.lemmas.Bool.{and_parts}
 use Rattle.value_types.specs.declared.value.Value.{Value}
 use Rattle.value_types.specs.declared.value.Value.TheVariants.{Null, Bool as Truth, Int, Fixed, Text}
 use Rattle.cell_errors.specs.Answers.{Answer, and_then, collect}
@@ -41,10 +42,6 @@ kind_fits (Int n) Unknown e = absurd (wrong e)
 kind_fits (Fixed n) Unknown e = absurd (wrong e)
 kind_fits (Text t) Unknown e = absurd (wrong e)
 kind_fits v (Of k) e = e
-
-and_parts : (a b : Bool) → IsTrue (a && b) → IsTrue a × IsTrue b
-and_parts true b e = (refl, e)
-and_parts false b e = cc
 
 -- ---- output columns
 

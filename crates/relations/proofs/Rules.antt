@@ -3,6 +3,7 @@ use Rattle.std.proofs.Common.{◌≡◌, Bool, true, false, ◌||◌, ◌&&◌, 
 use Rattle.std.specs.Prelude.{IsTrue}
 use Rattle.std.specs.List.{list_all, Contains}
 use Rattle.std.proofs.lemmas.List.Elements.{Contains-append_right}
+use Rattle.std.proofs.lemmas.Bool.{and_parts}
 use Rattle.value_types.specs.declared.row_id.RowId.{RowId}
 use Rattle.cell_errors.specs.Answers.{Answer}
 use Rattle.dataset_types.specs.declared.row.Row.{Row}
@@ -11,10 +12,6 @@ use Rattle.dataset_types.proofs.TableLemmas.{empty_contains, Contains-cases}
 use Rattle.relations.specs.declared.batch.Batch.{Batch}
 use Rattle.relations.specs.Batches.{both, gathered}
 use Rattle.relations.proofs.Gathered.{all_gathered, Each}
-
-and_parts : (a b : Bool) → IsTrue (a && b) → IsTrue a × IsTrue b
-and_parts true b e = (refl, e)
-and_parts false b e = cc
 
 both_hold : (a b : Bool) → IsTrue a → IsTrue b → IsTrue (a && b)
 both_hold a b e k = rw (e, k) refl

@@ -1,6 +1,7 @@
 -- The law of types, and values that fit columns.
 use Rattle.std.proofs.Common.{◌≡◌, Bool, true, false, ◌&&◌, Option, Some, None, List, [], ◌∷◌, length, refl, subst, sym, inl, inr, arith}
 use Rattle.std.specs.Prelude.{IsTrue}
+use Rattle.std.proofs.lemmas.Bool.{and_parts}
 use Rattle.value_types.specs.declared.value.ColumnType.{ColumnType}
 use Rattle.value_types.specs.declared.value.ColumnType.TheVariants as kind
 use Rattle.value_types.specs.declared.value.Value.{Value}
@@ -78,10 +79,6 @@ keeps_type e s types picks cell f t v is gives =
     is_so v t (value_is picks cell e s types (record { row = are_bound s.row types.columns f.row; group = group_bound s.group types.group f.group }) t v is gives)
 
 -- ---- rows
-
-and_parts : (a b : Bool) → IsTrue (a && b) → IsTrue a × IsTrue b
-and_parts true b e = (refl, e)
-and_parts false b e = cc
 
 -- the bindings of a row that fits its columns fit them
 pub row_is_bound : (cs : List ScopeColumn) (ms : List Marked) → length ms ≡ length (bare_columns cs) → IsTrue (values_fit (bare_columns cs) ms) → FitsColumns (bindings cs ms) cs
