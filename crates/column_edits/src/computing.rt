@@ -1,5 +1,5 @@
 //! The command that computes a column.
-ghost use Rattle.std.specs.Prelude.{◌≡◌, IfOk, Ok};
+ghost use Rattle.std.specs.Prelude.{◌≡◌};
 ghost use Rattle.cell_errors.specs.Answers.{Gives, collect};
 ghost use Rattle.column_edits.specs.Filling as fill;
 ghost use Rattle.column_edits.specs.Filling.{value_by};
@@ -12,27 +12,10 @@ use cell_errors::{CellError, EvalFault};
 use dataset_types::{Column, Marked, MarkedValues, Picks, Row, Table};
 use edit_results::as_fixed;
 use expr_lang::Expr;
-use expr_meaning::{ExprType, Scope, ScopeColumn, eval, type_of};
-use relations::bind;
+use expr_meaning::{ExprType, Scope, eval, type_of};
+use relations::{bind, qualified_columns};
 use std::alloc::Global;
-use value_types::{ArcOf, ColumnType, Name, NoMemory, Value};
-
-fn scope_of(alloc: Global, columns: &[Column]) -> Result<Scope, NoMemory>
-    ensures { IfOk result (λ s. s ≡ spec.scope columns.now) }
-{
-    let mut all = Scope::new(alloc)?;
-    for column in columns {
-        let column = column.copy(alloc)?;
-        all.push(
-            alloc,
-            ScopeColumn {
-                qualifier: None,
-                column,
-            },
-        )?;
-    }
-    Ok(all)
-}
+use value_types::{ArcOf, ColumnType, Name, Value};
 
 fn goes_into(kind: ColumnType, of: ExprType) -> bool
     ensures { result ≡ spec.goes_into kind of }
@@ -113,7 +96,7 @@ fn values_of(
     ensures { Gives result (fill.values_of column.now expr.now picks.now cell table.now) }
 {
     let columns = table.columns().as_slice();
-    let scope = scope_of(alloc, columns)?;
+    let scope = qualified_columns(alloc, columns, &None)?;
     let kind = formula_type(alloc, column, expr, columns, &scope)?;
     let how = InRow {
         scope: &scope,
