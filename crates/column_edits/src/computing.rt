@@ -1,6 +1,7 @@
 //! The command that computes a column.
-ghost use Rattle.std.specs.Prelude.{◌≡◌};
+ghost use Rattle.std.specs.Prelude.{◌≡◌, OnOk};
 ghost use Rattle.cell_errors.specs.Answers.{Gives, collect};
+ghost use Rattle.relations.specs.Bound.{AreUnder};
 ghost use Rattle.column_edits.specs.Filling as fill;
 ghost use Rattle.column_edits.specs.Filling.{value_by};
 ghost use Rattle.column_edits.specs.Formula as spec;
@@ -12,8 +13,8 @@ use cell_errors::{CellError, EvalFault};
 use dataset_types::{Column, Marked, MarkedValues, Picks, Row, Table};
 use edit_results::as_fixed;
 use expr_lang::Expr;
-use expr_meaning::{ExprType, Scope, eval, type_of};
-use relations::{bind, qualified_columns};
+use expr_meaning::{Bindings, ExprType, Scope, eval, type_of};
+use relations::{bind_again, qualified_columns};
 use std::alloc::Global;
 use value_types::{ArcOf, ColumnType, Name, Value};
 
@@ -64,22 +65,32 @@ struct InRow<'a> {
     kind: ColumnType,
 }
 
-fn formula_value(alloc: Global, how: &InRow, row: &Row) -> Result<Marked, EvalFault>
-    ensures { Gives result (value_by how.now row.now) }
+/// The value over a row. `bound` has the row before it, or nothing, and has this row afterwards: the names stay.
+#[tactic(auto, using(relations::proofs::Revalued::under))]
+fn formula_value(
+    alloc: Global,
+    how: &InRow,
+    bound: &mut Bindings,
+    row: &Row,
+) -> Result<Marked, EvalFault>
+    requires { AreUnder how.now.scope.now bound.old }
+    ensures value { Gives result (value_by how.now row.now) }
+    ensures bound { OnOk result (AreUnder how.now.scope.now bound.new) }
 {
-    let bound = bind(alloc, how.scope.as_slice(), row.values.as_slice())?;
-    let Marked { value, marked } = eval(alloc, how.expr, &bound, how.picks, how.cell)?;
+    bind_again(alloc, bound, how.scope.as_slice(), row.values.as_slice())?;
+    let Marked { value, marked } = eval(alloc, how.expr, bound, how.picks, how.cell)?;
     let value = entered(how.kind, value)?;
     Ok(Marked { value, marked })
 }
 
-#[tactic(auto, using(relations::proofs::Collecting::collecting))]
+#[tactic(auto, using(relations::proofs::Collecting::collecting, relations::proofs::Revalued::under))]
 fn formula_values(alloc: Global, how: &InRow, rows: &[Row]) -> Result<MarkedValues, EvalFault>
     ensures { Gives result (collect (value_by how.now) rows.now) }
 {
     let mut all = MarkedValues::new(alloc)?;
+    let mut bound = Bindings::new(alloc)?;
     for row in rows {
-        let value = formula_value(alloc, how, row)?;
+        let value = formula_value(alloc, how, &mut bound, row)?;
         all.push(alloc, value)?;
     }
     Ok(all)

@@ -7,4 +7,4 @@ pub returns-in_err-value : goal.returns-in_err-value
 returns-in_err-value c =
     let p = err_from_is_err_and c.from_residual-in_err-value.result c.from_residual-in_err-value.ensures.1 in
     rw (p.1, p.2) (stops_at (value_by c.args.how.now) _ c.loop-row.all c.args.rows.now c.loop-row.row-index c.row-item.result c.in_err-value.field-0.0
-    c.loop-row.invariant c.loop-row-test.true c.row-item.is c.in_err-value.ensures)
+    c.loop-row.invariant.1 c.loop-row-test.true c.row-item.is c.in_err-value.ensures.value)
