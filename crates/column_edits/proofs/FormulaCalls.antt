@@ -15,7 +15,7 @@ use Rattle.relations.proofs.Gathered.{the_same, then_ok}
 use Rattle.edit_results.specs.Results.{KeepsRules, whole}
 use Rattle.column_edits.specs.Changes.{laid_row}
 use Rattle.column_edits.specs.Formula.{scope, formula_type, value_over, refilled, formula_row, formula}
-use Rattle.column_edits.specs.Filling.{values_of, rows_with, filled}
+use Rattle.column_edits.specs.Filling.{values_of, refilled_rows, filled}
 use Rattle.column_edits.proofs.TableRules.{formula_rules}
 
 -- ---- the values of all first, then what each makes of its item
@@ -56,7 +56,7 @@ module _ (name : Name) (expr : Expr) (picks : List Pick) (cell : ℕ) (t : Table
   by_values = at (formula_type name expr t.columns)
     where
       rest : (a : Answer (List Marked)) →
-          and_then (and_then a (λ new. Ok (rows_with (refilled name t.columns) new t.rows))) with_rows ≡ and_then a (λ new. whole (filled name new t))
+          and_then (and_then a (λ new. Ok (refilled_rows (refilled name t.columns) new t.rows))) with_rows ≡ and_then a (λ new. whole (filled name new t))
       rest (Ok new) = refl
       rest (Err e) = refl
 
@@ -87,5 +87,5 @@ module _ (name : Name) (expr : Expr) (picks : List Pick) (cell : ℕ) (t : Table
     filled_rules is =
         let layout = refilled name t.columns in
         let p = then_ok (formula_type name expr t.columns) (λ k. collect (value_over (scope t.columns) expr picks cell k) t.rows) new are in
-        formula_rules name expr picks cell t p.0 (rows_with layout new t.rows) is p.1
-        (in_turn (value_over (scope t.columns) expr picks cell p.0) (laid_row layout) t.rows ∙ ap (λ a. and_then a (λ ms. Ok (rows_with layout ms t.rows))) p.2)
+        formula_rules name expr picks cell t p.0 (refilled_rows layout new t.rows) is p.1
+        (in_turn (value_over (scope t.columns) expr picks cell p.0) (laid_row layout) t.rows ∙ ap (λ a. and_then a (λ ms. Ok (refilled_rows layout ms t.rows))) p.2)

@@ -1,7 +1,7 @@
 -- A formula in two steps: the values of its column, and the table that has them.
-use Rattle.std.specs.Prelude.{ℕ, Bool, List, map, zip}
+use Rattle.std.specs.Prelude.{ℕ, Bool, ◌||◌, List, map, zip}
 use Rattle.std.specs.List.{list_all}
-use Rattle.std.specs.Cmp.Lexicographic.{pointwise}
+use Rattle.std.specs.Option.{is_some}
 use Rattle.cell_errors.specs.Answers.{Answer, and_then, collect}
 use Rattle.dataset_types.specs.declared.picks.Pick.{Pick}
 use Rattle.dataset_types.specs.declared.row.Marked.{Marked}
@@ -12,7 +12,6 @@ use Rattle.expr_lang.specs.declared.expr.Expr.{Expr}
 use Rattle.expr_meaning.specs.Names.{Name}
 use Rattle.column_edits.specs.declared.computing.InRow.{InRow}
 use Rattle.column_edits.specs.declared.layout.LaidColumn.{LaidColumn}
-use Rattle.column_edits.specs.Layout.{laid}
 use Rattle.column_edits.specs.Changes.{laid_row}
 use Rattle.column_edits.specs.Formula.{scope, formula_type, value_over, refilled}
 
@@ -26,17 +25,17 @@ values_of name expr picks cell t =
     and_then (formula_type name expr t.columns) (λ k. collect (value_over (scope t.columns) expr picks cell k) t.rows)
 
 -- each row under a layout, with a new value of its own in the columns without a source
-abbrev pub rows_with : List LaidColumn → List Marked → List Row → List Row
-rows_with layout new rows = map (λ p. laid_row layout p.0 p.1) (zip new rows)
+abbrev pub refilled_rows : List LaidColumn → List Marked → List Row → List Row
+refilled_rows layout new rows = map (λ p. laid_row layout p.0 p.1) (zip new rows)
 
 -- a table with a new value for each row in the column of a name
 abbrev pub filled : Name → List Marked → TableData → TableData
-filled name new t = table_of t.columns (rows_with (refilled name t.columns) new t.rows) t.is_open t.is_loose
+filled name new t = table_of t.columns (refilled_rows (refilled name t.columns) new t.rows) t.is_open t.is_loose
 
--- whether the values of a row are those that it has under a layout, with this one in the columns without a source
+-- whether each column without a source has this value at its place already
 abbrev pub stay : List LaidColumn → Marked → List Marked → Bool
-stay layout new values = pointwise same_marked (laid new layout values) values
+stay layout new values = list_all (λ p. is_some p.0.source || same_marked p.1 new) (zip layout values)
 
--- whether those of each row are, with a new value of its own
+-- whether they do in each row, with a new value of its own
 abbrev pub all_stay : List LaidColumn → List Marked → List Row → Bool
 all_stay layout new rows = list_all (λ p. stay layout p.0 p.1.values) (zip new rows)

@@ -6,7 +6,7 @@ ghost use Rattle.column_edits.specs.Formula as formula;
 ghost use Rattle.column_edits.specs.Filling as spec;
 ghost use Rattle.column_edits.specs.Filling.{filled};
 
-use crate::layout::{LaidColumn, Layout, as_they_stand, laid_row, value_from};
+use crate::layout::{LaidColumn, Layout, as_they_stand, laid_row};
 use crate::plans::has_name;
 use cell_errors::EvalFault;
 use dataset_types::{Column, Marked, Row, Rows, Table};
@@ -14,24 +14,24 @@ use edit_results::whole_table;
 use std::alloc::Global;
 use value_types::{ArcOf, Name, NoMemory};
 
-fn emptied(alloc: Global, laid: &LaidColumn) -> Result<LaidColumn, NoMemory>
-    ensures { IfOk result (λ c. c ≡ formula.emptied laid.now) }
+fn emptied(laid: LaidColumn) -> LaidColumn
+    ensures { result ≡ formula.emptied laid }
 {
-    Ok(LaidColumn {
-        column: laid.column.copy(alloc)?,
+    LaidColumn {
+        column: laid.column,
         source: None,
-    })
+    }
 }
 
-fn emptied_at(alloc: Global, name: &Name, layout: &[LaidColumn]) -> Result<Layout, NoMemory>
-    ensures { IfOk result (λ l. l ≡ formula.emptied_at name.now layout.now) }
+fn emptied_at(alloc: Global, name: &Name, layout: Layout) -> Result<Layout, NoMemory>
+    ensures { IfOk result (λ l. l ≡ formula.emptied_at name.now layout) }
 {
     let mut all = Layout::new(alloc)?;
-    for laid in layout {
-        let column = if has_name(name, laid) {
-            emptied(alloc, laid)?
+    for laid in layout.into_vec() {
+        let column = if has_name(name, &laid) {
+            emptied(laid)
         } else {
-            laid.copy(alloc)?
+            laid
         };
         all.push(alloc, column)?;
     }
@@ -42,44 +42,35 @@ fn refilled(alloc: Global, name: &Name, columns: &[Column]) -> Result<Layout, No
     ensures { IfOk result (λ l. l ≡ formula.refilled name.now columns.now) }
 {
     let layout = as_they_stand(alloc, columns)?;
-    emptied_at(alloc, name, layout.as_slice())
+    emptied_at(alloc, name, layout)
 }
 
-// Whether a row's values are those that it has under a layout, with this one in the columns without a source.
+/// Whether each column without a source has this value at its place already.
 fn stay(layout: &[LaidColumn], new: &Marked, values: &[Marked]) -> bool
     ensures { result ≡ spec.stay layout.now new.now values.now }
 {
-    if layout.len() != values.len() {
-        return false;
-    }
-    for i in 0..values.len() {
-        if *value_from(new, values, layout[i].source) != values[i] {
-            return false;
-        }
-    }
-    true
+    layout
+        .iter()
+        .zip(values)
+        .all(|(laid, value)| laid.source.is_some() || value == new)
 }
 
 fn all_stay(layout: &[LaidColumn], new: &[Marked], rows: &[Row]) -> bool
-    requires { length new.now ≡ length rows.now }
     ensures { result ≡ spec.all_stay layout.now new.now rows.now }
 {
-    for i in 0..rows.len() {
-        if !stay(layout, &new[i], rows[i].values.as_slice()) {
-            return false;
-        }
-    }
-    true
+    new.iter()
+        .zip(rows)
+        .all(|(new, row)| stay(layout, new, row.values.as_slice()))
 }
 
-fn rows_with(
+fn refilled_rows(
     alloc: Global,
     layout: &[LaidColumn],
     new: &[Marked],
     rows: &[Row],
 ) -> Result<Rows, NoMemory>
     requires { length new.now ≡ length rows.now }
-    ensures { IfOk result (λ r. r ≡ spec.rows_with layout.now new.now rows.now) }
+    ensures { IfOk result (λ r. r ≡ spec.refilled_rows layout.now new.now rows.now) }
 {
     let mut all = Rows::new(alloc)?;
     for i in 0..rows.len() {
@@ -108,7 +99,7 @@ pub(crate) fn filled_shared(
     if all_stay(layout.as_slice(), new, rows) {
         return Ok(table.copy(alloc)?);
     }
-    let rows = rows_with(alloc, layout.as_slice(), new, rows)?;
+    let rows = refilled_rows(alloc, layout.as_slice(), new, rows)?;
     let columns = own.columns().copy(alloc)?;
     whole_table(alloc, columns, rows, own.is_open(), own.is_loose())
 }

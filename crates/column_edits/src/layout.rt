@@ -99,12 +99,8 @@ pub(crate) fn columns_of(alloc: Global, layout: &[LaidColumn]) -> Result<Columns
     Ok(all)
 }
 
-/// The value at a source, or the new value where a column has none.
-pub(crate) fn value_from<'a>(
-    new: &'a Marked,
-    values: &'a [Marked],
-    source: Option<usize>,
-) -> &'a Marked
+// The value at a source, or the new value where a column has none.
+fn value_from<'a>(new: &'a Marked, values: &'a [Marked], source: Option<usize>) -> &'a Marked
     ensures { result.now ≡ spec.value_from new.now values.now source }
 {
     match source {
