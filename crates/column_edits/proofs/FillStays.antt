@@ -3,6 +3,7 @@ use Rattle.std.proofs.Common.{◌≡◌, ℕ, suc, ◌+◌, Bool, true, false, �
 use Rattle.std.specs.Prelude.{IsTrue, ◌==◌, ◌||◌, if◌then◌else◌, unwrap_or, slice_get}
 use Rattle.std.specs.Option.{is_some}
 use Rattle.std.specs.List.{enumerate_from}
+use Rattle.std.proofs.lemmas.Bool.{and_parts}
 use Rattle.std.proofs.lemmas.Bool.Decides.{Decides-eqb}
 use Rattle.dataset_types.specs.declared.column.Column.{Column}
 use Rattle.dataset_types.specs.declared.row.Marked.{Marked}
@@ -18,7 +19,6 @@ use Rattle.column_edits.specs.Plans.{has_name}
 use Rattle.column_edits.specs.Changes.{laid_row}
 use Rattle.column_edits.specs.Formula.{emptied, emptied_at, refilled}
 use Rattle.column_edits.specs.Filling.{refilled_rows, filled, stay, all_stay}
-use Rattle.column_edits.proofs.Laying.{and_parts}
 use Rattle.column_edits.proofs.PlanRules.{from_here, from_next, from_start}
 
 module _ (name : Name) (new : Marked) where

@@ -1,6 +1,7 @@
 -- Values under a layout: read otherwise, and of the types of the layout's columns.
-use Rattle.std.proofs.Common.{◌≡◌, ℕ, zero, suc, Bool, true, false, ◌&&◌, Option, Some, None, List, [], ◌∷◌, map, length, refl, ap, ◌∙◌, sym, arith}
+use Rattle.std.proofs.Common.{◌≡◌, ℕ, zero, suc, Bool, true, false, Option, Some, None, List, [], ◌∷◌, map, length, refl, ap, ◌∙◌, sym, arith}
 use Rattle.std.specs.Prelude.{IsTrue, ◌==◌, unwrap_or, slice_get, option_map}
+use Rattle.std.proofs.lemmas.Bool.{and_parts}
 use Rattle.std.proofs.lemmas.Bool.Decides.{Decides-eqb}
 use Rattle.std.proofs.lemmas.List.{length-map}
 use Rattle.std.proofs.lemmas.Option.{slice_get-map}
@@ -47,10 +48,6 @@ Supplies columns new k (Some p) = kind_at columns p ≡ Some k
 -- a column of a layout over these columns whose source has values of its type
 abbrev pub Takes : List Column → Value → LaidColumn → Type 0
 Takes columns new c = Supplies columns new c.column.kind c.source
-
-pub and_parts : (a b : Bool) → IsTrue (a && b) → IsTrue a × IsTrue b
-and_parts true b e = (refl, e)
-and_parts false b e = cc
 
 none_is_some : (k : ColumnType) → None ≡ Some k → ⊥
 none_is_some k e = cc

@@ -1,7 +1,8 @@
 -- The names of layouts: which stand there, and that none stands twice.
 use Rattle.std.proofs.Common.{◌≡◌, ℕ, ◌+◌, Bool, true, false, Ok, List, [], ◌∷◌, map, cond, refl, subst, ap, ◌∙◌, sym, inl, inr, ◌⊎◌}
-use Rattle.std.specs.Prelude.{not, ◌||◌, if◌then◌else◌}
+use Rattle.std.specs.Prelude.{not, if◌then◌else◌}
 use Rattle.std.specs.List.{Contains, enumerate_from}
+use Rattle.std.proofs.lemmas.Bool.{or_parts}
 use Rattle.std.proofs.lemmas.Slice.Eq.{bytes_eq-Decides}
 use Rattle.cell_errors.specs.Answers.{and_then, collect}
 use Rattle.dataset_types.specs.declared.column.Column.{Column}
@@ -32,10 +33,6 @@ pub not_both : (b : Bool) → b ≡ true → b ≡ false → ⊥
 not_both true e k = cc
 not_both false e k = cc
 
-or_false : (a b : Bool) → (a || b) ≡ false → (a ≡ false) × (b ≡ false)
-or_false true b e = cc
-or_false false b e = (refl, e)
-
 pub name_is : (name : Name) (c : LaidColumn) → has_name name c ≡ true → name ≡ c.column.name
 name_is name c e = (bytes_eq-Decides name c.column.name).0 e
 
@@ -46,8 +43,8 @@ name_has name c e = (bytes_eq-Decides name c.column.name).1 e
 pub not_taken : (name : Name) (layout : List LaidColumn) → is_taken name layout ≡ false → Contains (names_of layout) name → ⊥
 not_taken name [] e c = empty_contains name c
 not_taken name (x ∷ xs) e c = elim (Contains-cases x.column.name (names_of xs) name c) [
-  | inl is ↦ not_both (has_name name x) (name_has name x (sym is)) (or_false (has_name name x) (is_taken name xs) e).0
-  | inr held ↦ not_taken name xs (or_false (has_name name x) (is_taken name xs) e).1 held
+  | inl is ↦ not_both (has_name name x) (name_has name x (sym is)) (or_parts (has_name name x) (is_taken name xs) e).0
+  | inr held ↦ not_taken name xs (or_parts (has_name name x) (is_taken name xs) e).1 held
 ]
 
 -- ---- the column of a name

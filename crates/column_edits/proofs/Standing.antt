@@ -2,6 +2,7 @@
 use Rattle.std.proofs.Common.{◌≡◌, ℕ, suc, ◌+◌, Some, Ok, List, [], ◌∷◌, map, length, refl, subst, ap, ◌∙◌, arith}
 use Rattle.std.specs.Prelude.{IsTrue, ◌==◌, unwrap_or, slice_get}
 use Rattle.std.specs.List.{enumerate_from}
+use Rattle.std.proofs.lemmas.Bool.{and_parts}
 use Rattle.std.proofs.lemmas.Bool.Decides.{Decides-eqb}
 use Rattle.dataset_types.specs.declared.column.Column.{Column}
 use Rattle.dataset_types.specs.declared.row.Marked.{Marked}
@@ -12,7 +13,6 @@ use Rattle.edit_results.proofs.Whole.{whole_of}
 use Rattle.column_edits.specs.declared.layout.LaidColumn.{LaidColumn}
 use Rattle.column_edits.specs.Layout.{standing, as_they_stand, laid}
 use Rattle.column_edits.specs.Changes.{blank, laid_row, laid_out}
-use Rattle.column_edits.proofs.Laying.{and_parts}
 use Rattle.column_edits.proofs.PlanRules.{from_here, from_next, from_start}
 use Rattle.column_edits.proofs.TableRules.{stand_columns}
 

@@ -25,6 +25,7 @@ use Rattle.relations.specs.Rels.{bare_columns}
 use Rattle.relations.specs.Typed.{is_of}
 use Rattle.relations.proofs.Gathered.{fine, the_same, then_ok, Each}
 use Rattle.relations.proofs.TypeLaw.{keeps_type, row_is_bound, alone}
+use Rattle.std.proofs.lemmas.Bool.{and_parts}
 use Rattle.std.proofs.lemmas.Bool.Decides.{Decides-eqb}
 use Rattle.std.specs.List.{Contains, enumerate_from}
 use Rattle.edit_results.specs.Results.{KeepsRules}
@@ -35,7 +36,7 @@ use Rattle.column_edits.specs.Plans.{has_name, find}
 use Rattle.column_edits.specs.Changes.{blank, laid_row, laid_out}
 use Rattle.column_edits.specs.Formula.{scope, goes_into, open_to, formula_type, entered, entered_seen, emptied, emptied_at, refilled, formula_row}
 use Rattle.column_edits.specs.Rules.{names_of, IsLayout}
-use Rattle.column_edits.proofs.Laying.{Takes, and_parts, laid_row_fits}
+use Rattle.column_edits.proofs.Laying.{Takes, laid_row_fits}
 use Rattle.column_edits.proofs.Places.{here, there}
 use Rattle.column_edits.proofs.Names.{not_both, names_are, names_stand, name_is}
 use Rattle.column_edits.proofs.PlanRules.{each_stands}

@@ -2,6 +2,7 @@
 use Rattle.std.proofs.Common.{◌≡◌, ℕ, Bool, true, false, not, ◌&&◌, ◌||◌, Ok, List, [], ◌∷◌, ◌++◌, map, cond, filter, refl, subst, ap, ◌∙◌, sym}
 use Rattle.std.specs.Prelude.{IsTrue, if◌then◌else◌, Option, Some, None}
 use Rattle.std.specs.List.{list_all, list_any}
+use Rattle.std.proofs.lemmas.Bool.{and_parts}
 use Rattle.value_types.specs.declared.row_id.RowId.{RowId}
 use Rattle.cell_errors.specs.Answers.{and_then}
 use Rattle.dataset_types.specs.declared.row.Row.{Row}
@@ -30,11 +31,7 @@ moved_ok : (row : List ℕ) (place : Option (List ℕ)) (rows out : List Row) �
     (is_place row_id place rows ≡ true) × (put row_id row place rows ≡ out)
 moved_ok row place rows out e =
     let p = if_ok (is_there row_id row rows && is_place row_id place rows) (Ok (put row_id row place rows)) _ out e in
-    (both (is_there row_id row rows) (is_place row_id place rows) p.0, the_same (put row_id row place rows) out p.1)
-  where
-    both : (a b : Bool) → (a && b) ≡ true → b ≡ true
-    both true b k = k
-    both false b k = cc
+    ((and_parts (is_there row_id row rows) (is_place row_id place rows) p.0).1, the_same (put row_id row place rows) out p.1)
 
 -- ---- the rules
 

@@ -4,7 +4,7 @@ use Rattle.std.specs.Prelude.{IsTrue, if◌then◌else◌, ◌==◌, Option, Som
 use Rattle.std.specs.List.{list_all}
 use Rattle.std.specs.Str.{bytes_eq}
 use Rattle.std.specs.Result.{result_map_both}
-use Rattle.std.proofs.lemmas.List.{length-set}
+use Rattle.std.proofs.lemmas.List.{length-set, map-set}
 use Rattle.value_types.specs.Numbers.{widened}
 use Rattle.value_types.specs.declared.value.ColumnType.{ColumnType}
 use Rattle.value_types.specs.declared.value.ColumnType.TheVariants as kind
@@ -185,16 +185,11 @@ set_table row column v t out is e =
 
 -- ---- erasure
 
-set_map : {X Y : Type 0} (f : X → Y) (xs : List X) (n : ℕ) (x : X) → slice_set (map f xs) n (f x) ≡ map f (slice_set xs n x)
-set_map f [] n x = refl
-set_map f (y ∷ ys) zero x = refl
-set_map f (y ∷ ys) (suc n) x = ap (λ z. f y ∷ z) (set_map f ys n x)
-
 rows_plain : (row : List ℕ) (n : ℕ) (w : Value) (rows : List Row) →
     changed_at plain_id row (with_plain n w) (map erased_row rows) ≡ map erased_row (changed_at row_id row (with_value n w) rows)
 rows_plain row n w rows =
     changed_map row_id plain_id erased_row (λ r. refl) (with_value n w) (with_plain n w)
-    (λ r. λ i. record { id = r.id; values = set_map (λ (m : Marked). m.value) r.values n (unmarked w) i }) row rows
+    (λ r. λ i. record { id = r.id; values = sym (map-set (λ (m : Marked). m.value) r.values n (unmarked w)) i }) row rows
 
 pub set_erases : (row column : List ℕ) (v : Value) → SetErases row column v
 set_erases row column v t = on (find_column t.columns column)
@@ -232,7 +227,7 @@ module _ (row : List ℕ) (n : ℕ) (w : Value) (rows : List Row) where
   sures =
       ap (map shown_row) (filter_map (λ r. r.sure) (λ r. r.sure) (change row n w) (λ r. same_sure_if row n w (is_text row r.id) r) rows)
       ∙ sym (changed_map row_id shown_id shown_row (λ r. refl) (with_value n w) (with_known n w)
-      (λ r. λ i. record { id = r.id; values = set_map shown_value r.values n (unmarked w) i }) row (filter (λ r. r.sure) rows))
+      (λ r. λ i. record { id = r.id; values = sym (map-set shown_value r.values n (unmarked w)) i }) row (filter (λ r. r.sure) rows))
 
   in_place : (l : Bool) → placed l (sure_rows (changed_at row_id row (with_value n w) rows)) ≡ set_shown row n w (placed l (sure_rows rows))
   in_place true = ap (λ z. ById (values_at z)) sures ∙ (λ k. ById (λ i. values_changed row (set_known n w) (sure_rows rows) i k))

@@ -1,6 +1,6 @@
 -- A sort that leaves a dataset as it is.
-use Rattle.std.proofs.Common.{◌≡◌, Bool, true, false, not, ◌||◌, Ok, List, refl, ap, ◌∙◌}
-use Rattle.std.specs.Prelude.{None, IsTrue}
+use Rattle.std.proofs.Common.{◌≡◌, Ok, List, refl, ap, ◌∙◌}
+use Rattle.std.specs.Prelude.{None}
 use Rattle.std.specs.List.{list_any}
 use Rattle.cell_errors.specs.Answers.{and_then}
 use Rattle.dataset_types.specs.Tables.{TableData, IsTable, table_of}
@@ -15,11 +15,7 @@ use Rattle.edit_results.proofs.Whole.{whole_of}
 use Rattle.row_edits.specs.Sort.{sort_keys, put_in_order, rows_sorted}
 use Rattle.row_edits.specs.Staying.{IsInOrder}
 use Rattle.row_edits.proofs.SortLaws.{bare_again}
-
-loose_stays : (l m : Bool) → IsTrue (l || not m) → (l || m) ≡ l
-loose_stays true m h = refl
-loose_stays false true h = cc
-loose_stays false false h = refl
+use Rattle.row_edits.proofs.Staying.{loose_stays}
 
 -- a dataset as a relation is within the limits of one
 rel_stays : (t : TableData) → IsTable t → whole_rel (table_rel None t) ≡ Ok (table_rel None t)

@@ -2,8 +2,9 @@
 use Rattle.std.proofs.Common.{◌≡◌, ℕ, suc, Bool, true, false, not, ◌&&◌, ◌||◌, Ok, Err, List, [], ◌∷◌, ◌++◌, length, cond, get_or, refl, ap, ◌∙◌, sym, arith}
 use Rattle.std.specs.Prelude.{if◌then◌else◌, ◌==◌, Option, Some, None, slice_set}
 use Rattle.std.specs.List.{list_all}
+use Rattle.std.proofs.lemmas.Bool.{and_parts}
 use Rattle.std.proofs.lemmas.Bool.Decides.{Decides-eqb}
-use Rattle.std.proofs.lemmas.List.{set-get_or}
+use Rattle.std.proofs.lemmas.List.{nil_from_length, set-get_or}
 use Rattle.value_types.specs.declared.row_id.RowId.{RowId}
 use Rattle.value_types.specs.declared.value.Value.{Value}
 use Rattle.cell_errors.specs.Answers.{and_then}
@@ -23,10 +24,6 @@ use Rattle.row_edits.specs.Ids.{row_id}
 use Rattle.row_edits.specs.Set.{with_value, value_set}
 use Rattle.row_edits.specs.Columns.{find_column, value_for}
 use Rattle.row_edits.specs.declared.columns.Found.{Found}
-
-empty : {X : Type 0} (xs : List X) → length xs ≡ 0 → xs ≡ []
-empty [] e = refl
-empty (x ∷ xs) e = absurd (omega (arith, e))
 
 -- ---- a row put where it is
 
@@ -58,7 +55,7 @@ module _ {R : Type 0} (id_of : R → RowId) where
           cond b (r ∷ only id_of row rs) (only id_of row rs) ++ cond (not b) (r ∷ without id_of row rs) (without id_of row rs) ≡ r ∷ rs
       on true h k =
           let no : length (only id_of row rs) ≡ 0 = omega (arith, k) in
-          let only_is = empty (only id_of row rs) no in
+          let only_is = nil_from_length (only id_of row rs) no in
           let rest_is = none_out row rs no in
           λ i. r ∷ (only_is i ++ rest_is i)
       on false h k = absurd (omega (arith, k, none_up_to row rs (omega (arith, h))))
@@ -100,9 +97,10 @@ module _ {R : Type 0} (id_of : R → RowId) where
 
 -- ---- a dataset with a row that is put, and one that stays
 
-both : (a b : Bool) → (a && b) ≡ true → (a ≡ true) × (b ≡ true)
-both true b e = (refl, e)
-both false b e = cc
+pub loose_stays : (l m : Bool) → (l || not m) ≡ true → (l || m) ≡ l
+loose_stays true m h = refl
+loose_stays false true h = cc
+loose_stays false false h = refl
 
 -- where both rows are there, the row is put
 pub goes : (row : List ℕ) (place : Option (List ℕ)) (rows : List Row) → are_there row_id row place rows ≡ true →
@@ -136,16 +134,11 @@ pub row_stays : (t : TableData) (row : List ℕ) (place : Option (List ℕ)) →
     stays t row place ≡ true → row_moved t row place ≡ Ok t
 row_stays t row place is there e =
     let unsure = follows_unsure row place t.rows in
-    let p = both (is_in_place row_id row place t.rows) _ e in
-    let q = both (is_there row_id row t.rows) _ there in
+    let p = and_parts (is_in_place row_id row place t.rows) _ e in
+    let q = and_parts (is_there row_id row t.rows) _ there in
     let rows = put_stays row_id row place t.rows p.0 q.0 in
     row_goes t row place there
-    ∙ (ap whole (λ i. table_of t.columns (rows i) t.is_open (loose t.is_loose unsure p.1 i)) ∙ whole_of t is)
-  where
-    loose : (l u : Bool) → (l || not u) ≡ true → (l || u) ≡ l
-    loose true u h = refl
-    loose false true h = cc
-    loose false false h = refl
+    ∙ (ap whole (λ i. table_of t.columns (rows i) t.is_open (loose_stays t.is_loose unsure p.1 i)) ∙ whole_of t is)
 
 -- ---- a value that is set where it stands
 
@@ -164,7 +157,7 @@ values_stay text at v (r ∷ rs) e = on (is_text text r.id) e (λ h. values_stay
         (stands text at v rs ≡ true → changed_at row_id text (with_value at v) rs ≡ rs) →
         (if b then with_value at v r else r) ∷ changed_at row_id text (with_value at v) rs ≡ r ∷ rs
     on true h rest =
-        let p = both (has_value at v r) (stands text at v rs) h in
+        let p = and_parts (has_value at v r) (stands text at v rs) h in
         let one = value_stays at v r p.0 in
         let more = rest p.1 in
         λ i. one i ∷ more i
