@@ -1,5 +1,5 @@
 -- Values under a layout: read otherwise, and of the types of the layout's columns.
-use Rattle.std.proofs.Common.{◌≡◌, ℕ, zero, suc, Bool, true, false, Option, Some, None, List, [], ◌∷◌, map, length, refl, ap, ◌∙◌, sym, arith}
+use Rattle.std.proofs.Common.{◌≡◌, ℕ, zero, suc, Option, Some, None, List, [], ◌∷◌, map, length, refl, ap, ◌∙◌, sym, arith}
 use Rattle.std.specs.Prelude.{IsTrue, ◌==◌, unwrap_or, slice_get, option_map}
 use Rattle.std.proofs.lemmas.Bool.{and_parts}
 use Rattle.std.proofs.lemmas.Bool.Decides.{Decides-eqb}
