@@ -60,14 +60,10 @@ fn keep_pair(
 ) -> Result<(), NoMemory>
     ensures { OnOk result (found.new ≡ both found.old (kept (paired left.now right.now) test)) }
 {
-    found.marked |= test.marked;
     if test.holds {
-        let row = pair(alloc, left, right)?;
-        let row = Row {
-            sure: row.sure & !test.marked,
-            ..row
-        };
-        found.rows.push(alloc, row)?;
+        found.keep(alloc, pair(alloc, left, right)?, test)?;
+    } else {
+        found.marked |= test.marked;
     }
     Ok(())
 }
