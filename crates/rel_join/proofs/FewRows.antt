@@ -14,6 +14,7 @@ use Rattle.relations.specs.Rels.{RelData, rel_of, whole}
 use Rattle.relations.specs.Batches.{nothing, both, gathered}
 use Rattle.relations.proofs.Gathered.{fine}
 use Rattle.relations.proofs.Loops.{resumed, begun, went_on, stopped, ended}
+use Rattle.rel_join.specs.Join.{joined_of}
 use Rattle.rel_join.specs.Jobs.{few_rows, both_few, few_joined}
 
 -- rows after too many are too many
@@ -92,15 +93,11 @@ too_large : (r : RelData) → nat_le (length r.rows) 65536 ≡ false → whole r
 too_large r e = rw e refl
 
 module _ (a b : RelData) where
-  -- the result of a join of these rows
-  abbrev whole_of : Batch → Answer RelData
-  whole_of m = whole (rel_of (a.columns ++ b.columns) m.rows ((a.is_open || b.is_open) || m.marked) (a.is_loose || b.is_loose))
-
   -- that its rows are few may be looked at first
-  pub few_are_all : (rows : Answer Batch) → few_joined a b rows ≡ and_then rows whole_of
+  pub few_are_all : (rows : Answer Batch) → few_joined a b rows ≡ and_then rows (joined_of a b)
   few_are_all (Ok m) = at (nat_le (length m.rows) 65536) refl
     where
-      at : (few : Bool) → nat_le (length m.rows) 65536 ≡ few → and_then (if few then Ok m else Err TooLarge) whole_of ≡ whole_of m
+      at : (few : Bool) → nat_le (length m.rows) 65536 ≡ few → and_then (if few then Ok m else Err TooLarge) (joined_of a b) ≡ joined_of a b m
       at true s = refl
       at false s = sym (too_large (rel_of (a.columns ++ b.columns) m.rows ((a.is_open || b.is_open) || m.marked) (a.is_loose || b.is_loose)) s)
   few_are_all (Err d) = refl

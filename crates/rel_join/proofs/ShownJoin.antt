@@ -20,7 +20,7 @@ use Rattle.expr_meaning.specs.Settings.{at_row, known_binding}
 use Rattle.expr_meaning.specs.Meaning.{marked_over_row, known_over_row}
 use Rattle.expr_meaning.proofs.KnownLaw.{is_known}
 use Rattle.relations.specs.declared.batch.Batch.{Batch}
-use Rattle.relations.specs.Rels.{RelData, rel_of, whole}
+use Rattle.relations.specs.Rels.{RelData, rel_of}
 use Rattle.relations.specs.Bound.{bindings}
 use Rattle.relations.specs.Batches.{gathered}
 use Rattle.relations.specs.Conditions.{kept_if, known_true}
@@ -32,7 +32,7 @@ use Rattle.relations.proofs.KeptRows.{row_shows}
 use Rattle.relations.proofs.Sames.{same_from}
 use Rattle.rel_join.specs.declared.kind.Kind.{Kind}
 use Rattle.rel_join.specs.declared.kind.Kind.TheVariants.{Inner, Outer}
-use Rattle.rel_join.specs.Join.{few_pairs, paired, pair_row, pairs_of, null_value, alone, or_one, by_kind, left_row, all_pairs, shown_paired, known_on, shown_pairs, unknown_on, shown_alone, or_alone, shown_left, shown_joined}
+use Rattle.rel_join.specs.Join.{few_pairs, paired, pair_row, pairs_of, null_value, alone, or_one, by_kind, left_row, joined_of, all_pairs, shown_paired, known_on, shown_pairs, unknown_on, shown_alone, or_alone, shown_left, shown_joined}
 use Rattle.rel_join.specs.Laws.{JoinShows}
 use Rattle.rel_join.proofs.JoinRules.{pairs_sure}
 
@@ -210,7 +210,7 @@ join_shows kind on a b out picks cell is too e =
     let mine = each_opens a.is_open (a.is_open || b.is_open) (λ k. rw k refl) a.rows (unsure_opens a.is_open a.rows is.rules.sure) in
     let own = each_opens b.is_open (a.is_open || b.is_open) (or_right a.is_open b.is_open) b.rows (unsure_opens b.is_open b.rows too.rules.sure) in
     let p = then_ok (few_pairs (length a.rows) (length b.rows)) (λ u. all_pairs kind a b on picks cell) out e in
-    let q = then_ok (gathered step a.rows) (λ m. whole (rel_of (a.columns ++ b.columns) m.rows ((a.is_open || b.is_open) || m.marked) (a.is_loose || b.is_loose))) out p.2 in
+    let q = then_ok (gathered step a.rows) (joined_of a b) out p.2 in
     let made = rows_of a.columns b on picks cell (a.is_open || b.is_open) too.rules.sure own kind in
     let mark = mark_of a.columns b on picks cell (a.is_open || b.is_open) too.rules.sure own in
     let s = all_shown (a.is_open || b.is_open) step show_row made mark (UnsureOpens (a.is_open || b.is_open))

@@ -1,5 +1,5 @@
 -- What the functions inside the crate promise each other.
-use Rattle.std.specs.Prelude.{◌||◌, ◌++◌, if◌then◌else◌, nat_le, length, Ok, Err, IfSome, List}
+use Rattle.std.specs.Prelude.{◌++◌, if◌then◌else◌, nat_le, length, Ok, Err, IfSome, List}
 use Rattle.cell_errors.specs.Answers.{Answer, and_then}
 use Rattle.cell_errors.specs.declared.fault.CellError.TheVariants.{TooLarge}
 use Rattle.dataset_types.specs.declared.row.Row.{Row}
@@ -7,12 +7,12 @@ use Rattle.expr_meaning.specs.declared.bindings.Binding.{Binding}
 use Rattle.expr_meaning.specs.Meaning.{marked_over_row}
 use Rattle.relations.specs.declared.batch.Batch.{Batch}
 use Rattle.relations.specs.declared.condition.Test.{Test}
-use Rattle.relations.specs.Rels.{RelData, rel_of, whole}
+use Rattle.relations.specs.Rels.{RelData}
 use Rattle.relations.specs.Bound.{bindings}
 use Rattle.relations.specs.Batches.{both, gathered}
 use Rattle.relations.specs.Conditions.{test_of}
 use Rattle.rel_join.specs.declared.pairs.Job.{Job}
-use Rattle.rel_join.specs.Join.{pairs_of, left_row}
+use Rattle.rel_join.specs.Join.{pairs_of, left_row, joined_of}
 use Rattle.rel_join.specs.Equalities.{ComparesPlaces}
 
 -- the places in the job are those that its ON compares
@@ -49,5 +49,4 @@ job_rows job rows = and_then (gathered (job_row job) rows) few_rows
 
 -- the result of a join, where its rows are few
 abbrev pub few_joined : RelData → RelData → Answer Batch → Answer RelData
-few_joined a b rows =
-    and_then (and_then rows few_rows) (λ m. whole (rel_of (a.columns ++ b.columns) m.rows ((a.is_open || b.is_open) || m.marked) (a.is_loose || b.is_loose)))
+few_joined a b rows = and_then (and_then rows few_rows) (joined_of a b)

@@ -42,7 +42,8 @@ module _ (left right : List ScopeColumn) (on : Expr) (picks : List Pick) (cell :
   -- the pair where ON is TRUE, unsure where that is marked
   abbrev pub pair_row : Row → Row → Answer Batch
   pair_row l r =
-      and_then (test_of (marked_over_row (bindings left l.values ++ bindings right r.values) picks cell on)) (λ t. Ok (kept (paired l r) t))
+      and_then (test_of (marked_over_row (bindings left l.values ++ bindings right r.values) picks cell on)) (λ t.
+      Ok (kept (paired l r) t))
 
   -- the pairs of a left row
   abbrev pub pairs_of : List Row → Row → Answer Batch
@@ -75,11 +76,14 @@ abbrev pub left_row : Kind → List ScopeColumn → RelData → Expr → List Pi
 left_row kind left b on picks cell l =
     and_then (pairs_of left b.columns on picks cell b.rows l) (λ m. Ok (by_kind kind (length b.columns) b.is_open l m))
 
--- open where a side is or an ON is marked, loose where a side is
+-- the result of a join of these rows: open where a side is or an ON is marked, loose where a side is
+abbrev pub joined_of : RelData → RelData → Batch → Answer RelData
+joined_of a b m =
+    whole (rel_of (a.columns ++ b.columns) m.rows ((a.is_open || b.is_open) || m.marked) (a.is_loose || b.is_loose))
+
+-- what it makes of all left rows, where the whole is within the limits
 abbrev pub all_pairs : Kind → RelData → RelData → Expr → List Pick → ℕ → Answer RelData
-all_pairs kind a b on picks cell =
-    and_then (gathered (left_row kind a.columns b on picks cell) a.rows) (λ m.
-    whole (rel_of (a.columns ++ b.columns) m.rows ((a.is_open || b.is_open) || m.marked) (a.is_loose || b.is_loose)))
+all_pairs kind a b on picks cell = and_then (gathered (left_row kind a.columns b on picks cell) a.rows) (joined_of a b)
 
 -- the number of pairs is looked at first
 abbrev pub joined : Kind → RelData → RelData → Expr → List Pick → ℕ → Answer RelData
@@ -113,7 +117,8 @@ plain_left kind left b on picks cell l =
 -- what it makes of all left rows, where the whole is within the limits
 abbrev pub plain_pairs : Kind → PlainRel → PlainRel → Expr → List Pick → ℕ → Answer PlainRel
 plain_pairs kind a b on picks cell =
-    and_then (listed (plain_left kind a.columns b on picks cell) a.rows) (λ rows. plain_whole (record { columns = a.columns ++ b.columns; rows = rows }))
+    and_then (listed (plain_left kind a.columns b on picks cell) a.rows) (λ rows.
+    plain_whole (record { columns = a.columns ++ b.columns; rows = rows }))
 
 -- the number of pairs is looked at first
 abbrev pub plain_joined : Kind → PlainRel → PlainRel → Expr → List Pick → ℕ → Answer PlainRel
@@ -151,7 +156,8 @@ or_alone (y ∷ ys) certain x = y ∷ ys
 abbrev pub shown_left : Kind → List ScopeColumn → ShownRel → Expr → ShownRow → List ShownRow
 shown_left Inner left b on l = shown_pairs left b.columns on b.rows l
 shown_left Outer left b on l =
-    or_alone (shown_pairs left b.columns on b.rows l) (not b.is_open && not (unknown_on left b.columns on b.rows l)) (shown_alone (length b.columns) l)
+    or_alone (shown_pairs left b.columns on b.rows l) (not b.is_open && not (unknown_on left b.columns on b.rows l))
+    (shown_alone (length b.columns) l)
 
 -- the same of all left rows: open where a side is or an ON is unknown, loose where a side is
 abbrev pub shown_joined : Kind → ShownRel → ShownRel → Expr → ShownRel
