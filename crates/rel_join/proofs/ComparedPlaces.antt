@@ -56,14 +56,14 @@ bound_both (c ∷ cs) ds [] ns e = absurd (omega arith)
 bound_both (c ∷ cs) ds (m ∷ ms) ns e = let more = bound_both cs ds ms ns (omega arith) in rw more refl
 
 -- ON over two rows with a value for each column
-pub on_places : (job : Job) (at : Equality) (l r : Row) (x y : Marked) → ComparesPlaces (job.left.now ++ job.right.now.columns) at job.on.now →
-    length l.values ≡ length job.left.now → length r.values ≡ length job.right.now.columns →
+pub on_places : (job : Job) (at : Equality) (l r : Row) (x y : Marked) → ComparesPlaces (job.left.now.columns ++ job.right.now.columns) at job.on.now →
+    length l.values ≡ length job.left.now.columns → length r.values ≡ length job.right.now.columns →
     slice_get (l.values ++ r.values) at.first ≡ Some x → slice_get (l.values ++ r.values) at.second ≡ Some y → job_on job l r ≡ equal_test x y
 on_places job at l r x y compared fits fits_too here there =
     let values = length-append l.values r.values in
-    let columns = length-append job.left.now job.right.now.columns in
+    let columns = length-append job.left.now.columns job.right.now.columns in
     ap test_of
-    (ap (λ row. marked_over_row row job.picks.now job.cell job.on.now) (sym (bound_both job.left.now job.right.now.columns l.values r.values fits))
+    (ap (λ row. marked_over_row row job.picks.now job.cell job.on.now) (sym (bound_both job.left.now.columns job.right.now.columns l.values r.values fits))
     ∙ compared (l.values ++ r.values) job.picks.now job.cell x y (omega arith) here there)
 
 -- what the proofs of places use

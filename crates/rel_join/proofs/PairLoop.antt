@@ -17,11 +17,11 @@ use Rattle.rel_join.specs.Jobs.{job_test}
 
 -- what the join makes of a pair
 abbrev pub job_pair : Job → Row → Row → Answer Batch
-job_pair job l r = pair_row job.left.now job.right.now.columns job.on.now job.picks.now job.cell l r
+job_pair job l r = pair_row job.left.now.columns job.right.now.columns job.on.now job.picks.now job.cell l r
 
 module _ (job : Job) (l : Row) where
   abbrev bound : List Binding
-  bound = bindings job.left.now l.values
+  bound = bindings job.left.now.columns l.values
 
   pair_is : (r : Row) (t : Test) → job_test job bound r ≡ Ok t → job_pair job l r ≡ Ok (kept (paired l r) t)
   pair_is r t e = rw e refl

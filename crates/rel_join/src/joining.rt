@@ -2,8 +2,8 @@
 ghost use Rattle.std.specs.Prelude.{◌≡◌, ◌++◌, IfOk, OnOk};
 ghost use Rattle.cell_errors.specs.Answers.{Gives};
 ghost use Rattle.relations.specs.Batches.{gathered};
-ghost use Rattle.rel_join.specs.Join.{left_row, few_pairs, all_pairs, joined};
-ghost use Rattle.rel_join.specs.Jobs.{HasPlaces, both_few, few_rows, job_row, job_rows, few_joined};
+ghost use Rattle.rel_join.specs.Join.{few_pairs, joined};
+ghost use Rattle.rel_join.specs.Jobs.{HasPlaces, both_few, few_rows, job_row, job_rows, job_joined, few_joined};
 ghost use Rattle.rel_join.specs.Rules.{AreApart};
 ghost use Rattle.rel_join.specs.declared.kind.Kind.TheVariants as kind;
 
@@ -86,61 +86,32 @@ fn all_columns(alloc: Global, a: &Rel, b: &Rel) -> Result<Scope, NoMemory>
     Ok(columns)
 }
 
-fn join_few(alloc: Global, a: &Rel, b: &Rel, columns: Scope, job: &Job) -> Result<Rel, EvalFault>
-    requires sides { (job.now.left.now ≡ a.now.columns) × (job.now.right.now ≡ b.now) }
-    requires columns { columns ≡ a.now.columns ++ b.now.columns }
+fn join_few(alloc: Global, columns: Scope, job: &Job) -> Result<Rel, EvalFault>
+    requires columns { columns ≡ job.now.left.now.columns ++ job.now.right.now.columns }
     requires places { HasPlaces job.now }
-    requires apart { AreApart a.now.columns b.now.columns }
-    ensures { Gives result (few_joined a.now b.now (gathered (job_row job.now) a.now.rows)) }
+    requires apart { AreApart job.now.left.now.columns job.now.right.now.columns }
+    ensures { Gives result (few_joined job.now.left.now job.now.right.now (gathered (job_row job.now) job.now.left.now.rows)) }
 {
-    a.law_of_rules();
-    b.law_of_rules();
-    let made = left_rows(alloc, job, a.rows().as_slice())?;
-    let is_open = a.is_open() | b.is_open() | made.marked;
-    let is_loose = a.is_loose() | b.is_loose();
+    let left = job.left;
+    let right = job.right;
+    left.law_of_rules();
+    right.law_of_rules();
+    let made = left_rows(alloc, job, left.rows().as_slice())?;
+    let is_open = left.is_open() | right.is_open() | made.marked;
+    let is_loose = left.is_loose() | right.is_loose();
     Rel::new(alloc, columns, made.rows, is_open, is_loose)
 }
 
+/// What a job joins, whatever it says of the equality.
 #[tactic(auto, using(crate::proofs::FewRows::few_are_all))]
-fn join_all(
-    alloc: Global,
-    kind: Kind,
-    a: &Rel,
-    b: &Rel,
-    on: &Expr,
-    picks: &Picks,
-    cell: u32,
-) -> Result<Rel, EvalFault>
-    requires apart { AreApart a.now.columns b.now.columns }
-    ensures { Gives result (all_pairs kind a.now b.now on.now picks.now cell) }
+fn join_any(alloc: Global, job: &Job) -> Result<Rel, EvalFault>
+    requires apart { AreApart job.now.left.now.columns job.now.right.now.columns }
+    ensures { Gives result (job_joined job.now) }
 {
-    let columns = all_columns(alloc, a, b)?;
-    let job = Job {
-        kind,
-        left: a.columns().as_slice(),
-        right: b,
-        on,
-        equality: equality_of(alloc, columns.as_slice(), on)?,
-        picks,
-        cell,
-    };
-    join_few(alloc, a, b, columns, &job)
-}
-
-fn join_any(
-    alloc: Global,
-    kind: Kind,
-    a: &Rel,
-    b: &Rel,
-    on: &Expr,
-    picks: &Picks,
-    cell: u32,
-) -> Result<Rel, EvalFault>
-    requires apart { AreApart a.now.columns b.now.columns }
-    ensures { Gives result (joined kind a.now b.now on.now picks.now cell) }
-{
-    allow(a.rows().len(), b.rows().len())?;
-    join_all(alloc, kind, a, b, on, picks, cell)
+    allow(job.left.rows().len(), job.right.rows().len())?;
+    let columns = all_columns(alloc, job.left, job.right)?;
+    let equality = equality_of(alloc, columns.as_slice(), job.on)?;
+    join_few(alloc, columns, &Job { equality, ..*job })
 }
 
 /// JOIN: the pairs of rows for which ON is TRUE, in the order of left rows and for each in that of right rows.
@@ -161,7 +132,16 @@ pub fn join(
     requires apart { AreApart a.now.columns b.now.columns }
     ensures { Gives result (joined kind.Inner a.now b.now on.now picks.now cell) }
 {
-    join_any(alloc, Kind::Inner, a, b, on, picks, cell)
+    let job = Job {
+        kind: Kind::Inner,
+        left: a,
+        right: b,
+        on,
+        equality: None,
+        picks,
+        cell,
+    };
+    join_any(alloc, &job)
 }
 
 /// LEFT JOIN: as JOIN, and each left row without a pair in its place, with NULL in the columns of the right side.
@@ -180,5 +160,14 @@ pub fn left_join(
     requires apart { AreApart a.now.columns b.now.columns }
     ensures { Gives result (joined kind.Outer a.now b.now on.now picks.now cell) }
 {
-    join_any(alloc, Kind::Outer, a, b, on, picks, cell)
+    let job = Job {
+        kind: Kind::Outer,
+        left: a,
+        right: b,
+        on,
+        equality: None,
+        picks,
+        cell,
+    };
+    join_any(alloc, &job)
 }

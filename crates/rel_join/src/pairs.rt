@@ -16,7 +16,7 @@ use crate::kind::Kind;
 use cell_errors::EvalFault;
 use dataset_types::{Marked, Picks, Row};
 use expr_lang::Expr;
-use expr_meaning::{Bindings, ScopeColumn};
+use expr_meaning::Bindings;
 use relations::{Batch, Rel, Test, bind, bind_more, test_row};
 use sqlite_items::Boxed;
 use std::alloc::Global;
@@ -27,7 +27,7 @@ use value_types::{NoMemory, RowId};
 #[derive(Clone, Copy)]
 pub struct Job<'a> {
     pub kind: Kind,
-    pub left: &'a [ScopeColumn],
+    pub left: &'a Rel,
     pub right: &'a Rel,
     pub on: &'a Expr,
     /// None where ON isn't known to compare two columns.
@@ -97,7 +97,7 @@ fn test_pair(alloc: Global, job: &Job, left: &mut Bindings, right: &Row) -> Resu
 fn bound_pairs(alloc: Global, job: &Job, left: &Row) -> Result<Batch, EvalFault>
     ensures { Gives result (job_pairs job.now left.now) }
 {
-    let mut bound = bind(alloc, job.left, left.values.as_slice())?;
+    let mut bound = bind(alloc, job.left.columns().as_slice(), left.values.as_slice())?;
     let mut found = Batch::new(alloc)?;
     for right in job.right.rows().as_slice() {
         let test = test_pair(alloc, job, &mut bound, right)?;
@@ -126,25 +126,25 @@ fn test_places(
     left: &Row,
     right: &Row,
 ) -> Result<Test, EvalFault>
-    requires { ComparesPlaces (job.now.left.now ++ job.now.right.now.columns) at job.now.on.now }
+    requires { ComparesPlaces (job.now.left.now.columns ++ job.now.right.now.columns) at job.now.on.now }
     ensures { Gives result (job_on job.now left.now right.now) }
 {
     let lefts = left.values.as_slice();
     let rights = right.values.as_slice();
-    if lefts.len() == job.left.len() && rights.len() == job.right.columns().len() {
+    if lefts.len() == job.left.columns().len() && rights.len() == job.right.columns().len() {
         if let Some(x) = value_at(lefts, rights, at.first) {
             if let Some(y) = value_at(lefts, rights, at.second) {
                 return Ok(test_equal(x, y)?);
             }
         }
     }
-    let mut bound = bind(alloc, job.left, lefts)?;
+    let mut bound = bind(alloc, job.left.columns().as_slice(), lefts)?;
     test_pair(alloc, job, &mut bound, right)
 }
 
 #[tactic(auto, using(crate::proofs::PairLoop::pairing))]
 fn equal_pairs(alloc: Global, job: &Job, at: Equality, left: &Row) -> Result<Batch, EvalFault>
-    requires { ComparesPlaces (job.now.left.now ++ job.now.right.now.columns) at job.now.on.now }
+    requires { ComparesPlaces (job.now.left.now.columns ++ job.now.right.now.columns) at job.now.on.now }
     ensures { Gives result (job_pairs job.now left.now) }
 {
     let mut found = Batch::new(alloc)?;

@@ -8,7 +8,9 @@ use Rattle.rel_join.proofs.joining.join_few.Goals as goal
 pub new-requires : goal.new-requires
 new-requires c =
     let job = c.args.job.now in
+    let a = job.left.now in
+    let b = job.right.now in
     let few = rw (c.as_slice.ensures, c.rows.ensures) at c.in_ok-made.ensures in
-    let rows = rw (c.requires.sides.0, c.requires.sides.1) at (few_is (gathered (job_row job) c.args.a.now.rows) c.in_ok-made.made few) in
+    let rows = few_is (gathered (job_row job) a.rows) c.in_ok-made.made few in
     rw (c.requires.columns, c.is_open.ensures, c.is_open-2.ensures, c.is_loose.ensures, c.is_loose-2.ensures)
-    (join_rules job.kind c.args.a.now c.args.b.now job.on.now job.picks.now job.cell c.in_ok-made.made c.law_of_rules.ensures c.law_of_rules-2.ensures c.requires.apart rows)
+    (join_rules job.kind a b job.on.now job.picks.now job.cell c.in_ok-made.made c.law_of_rules.ensures c.law_of_rules-2.ensures c.requires.apart rows)

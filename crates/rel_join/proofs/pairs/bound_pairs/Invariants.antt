@@ -7,5 +7,5 @@ use Rattle.rel_join.proofs.pairs.bound_pairs.Given as goal
 
 abbrev pub invariant-loop-right : goal.invariant-loop-right
 invariant-loop-right l =
-    (l.bound ≡ bindings l.job.left.now l.left.values)
+    (l.bound ≡ bindings l.job.left.now.columns l.left.values)
     × (job_pairs l.job l.left ≡ resumed l.found (job_pair l.job l.left) (drop l.right-index l.right-items))
