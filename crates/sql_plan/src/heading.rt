@@ -4,7 +4,8 @@ ghost use Rattle.relations.specs.Rels.{qualified};
 ghost use Rattle.sql_plan.specs.Headings.{table_columns};
 
 use dataset_types::{Column, Columns};
-use expr_meaning::{Scope, ScopeColumn};
+use expr_meaning::Scope;
+use relations::qualified_columns;
 use sql_parse::TableRef;
 use std::alloc::Global;
 use value_types::{ListOf, Name, NoMemory};
@@ -27,13 +28,8 @@ fn push_qualified(
 ) -> Result<(), NoMemory>
     ensures { OnOk result (all.new ≡ all.old ++ map (qualified (Some qualifier.now)) columns.now) }
 {
-    for column in columns {
-        let column = ScopeColumn {
-            qualifier: Some(qualifier.copy()),
-            column: column.copy(alloc)?,
-        };
-        all.push(alloc, column)?;
-    }
+    let columns = qualified_columns(alloc, columns, &Some(qualifier.copy()))?;
+    all.append(alloc, columns)?;
     Ok(())
 }
 
