@@ -1,5 +1,5 @@
 -- FROM and WHERE as one step, and what comes after it.
-use Rattle.std.proofs.Common.{◌≡◌, Some, Ok, Err, [], length, refl, ap, sym, ◌∙◌, subst}
+use Rattle.std.proofs.Common.{◌≡◌, Some, Ok, Err, length, refl, ap, sym, ◌∙◌, subst}
 use Rattle.std.proofs.lemmas.List.{nil_from_length}
 use Rattle.cell_errors.specs.Answers.{Answer, and_then, Fails}
 use Rattle.cell_errors.specs.declared.fault.EvalFault.{EvalFault}
