@@ -1,85 +1,35 @@
 -- The rules of the rows that groups give.
-use Rattle.std.proofs.Common.{◌≡◌, ℕ, suc, Bool, true, false, not, ◌&&◌, ◌||◌, Option, Some, None, Ok, List, [], ◌∷◌, map, length, refl, subst, ap, ◌∙◌, sym, inl, inr}
+use Rattle.std.proofs.Common.{◌≡◌, ℕ, Bool, true, false, not, ◌&&◌, ◌||◌, Option, Some, None, Ok, List, [], ◌∷◌, map, length, refl, subst, ap, ◌∙◌, sym, inl, inr}
 use Rattle.std.specs.Prelude.{IsTrue, if◌then◌else◌}
 use Rattle.std.specs.List.{list_all}
 use Rattle.std.proofs.lemmas.Bool.Decides.{Decides-eqb}
-use Rattle.value_types.specs.declared.value.Value.{Value}
-use Rattle.value_types.specs.declared.value.Value.TheVariants.{Null, Bool as Truth, Int, Fixed, Text}
 use Rattle.value_types.specs.declared.row_id.RowId.{Key as KeyId}
 use Rattle.cell_errors.specs.Answers.{Answer, and_then, collect}
 use Rattle.dataset_types.specs.declared.picks.Pick.{Pick}
 use Rattle.dataset_types.specs.declared.row.Marked.{Marked}
 use Rattle.dataset_types.specs.declared.row.Row.{Row}
-use Rattle.dataset_types.specs.Tables.{Distinct, fits, values_fit, row_fits, all_sure}
+use Rattle.dataset_types.specs.Tables.{Distinct, row_fits, all_sure}
 use Rattle.dataset_types.proofs.TableLemmas.{Distinct-map}
 use Rattle.expr_lang.specs.declared.expr.Expr.{Expr}
 use Rattle.expr_meaning.specs.declared.bindings.ScopeColumn.{ScopeColumn}
-use Rattle.expr_meaning.specs.declared.expr_type.ExprType.{ExprType}
-use Rattle.expr_meaning.specs.declared.expr_type.ExprType.TheVariants.{Null as Unknown, Of}
 use Rattle.expr_meaning.specs.Names.{Name}
 use Rattle.expr_meaning.specs.Settings.{MarkedSetting}
-use Rattle.expr_meaning.specs.Meaning.{marked_at}
-use Rattle.expr_meaning.specs.Types.{TypeSetting, type_at}
+use Rattle.expr_meaning.specs.Types.{TypeSetting}
 use Rattle.relations.specs.declared.batch.Batch.{Batch}
 use Rattle.relations.specs.declared.parts.Item.{Item}
-use Rattle.relations.specs.Rels.{RelData, rel_of, column_key, column_keys, bare_columns, KeepsRules, IsRel}
+use Rattle.relations.specs.Rels.{RelData, rel_of, bare_columns, KeepsRules, IsRel}
 use Rattle.relations.specs.Batches.{gathered}
 use Rattle.relations.specs.Conditions.{kept}
-use Rattle.relations.specs.Typed.{is_of, FitsSetting}
-use Rattle.relations.proofs.TypeLaw.{keeps_type}
+use Rattle.relations.specs.Typed.{FitsSetting}
 use Rattle.relations.proofs.Gathered.{fine, the_same, then_ok, Each}
 use Rattle.relations.proofs.Rules.{HasOnly, or_parts, all_of, all_pass, all_pass_unmarked, ids_distinct}
-use Rattle.rel_ops.specs.Project.{item_column, item_columns, item_names, kind_of, output_column}
+use Rattle.rel_ops.specs.Project.{item_columns, item_names}
+use Rattle.rel_ops.proofs.ProjectRules.{keys_are, values_are}
 use Rattle.rel_group.specs.Groups.{Group}
 use Rattle.rel_group.specs.Group.{Tested}
 use Rattle.rel_group.specs.Groups.{is_uncertain, groups, may_lack_groups, group_setting, group_types}
-use Rattle.rel_group.specs.Group.{having_test, tested, group_value, group_values, row_of, group_row, group_rows, rows_of}
+use Rattle.rel_group.specs.Group.{having_test, tested, group_values, row_of, group_row, group_rows, rows_of}
 use Rattle.rel_group.proofs.GroupFits.{each_back, groups_fitting, groups_apart, ids_apart, groups_sure}
-
--- ---- values of the items' types
-
-wrong : false ≡ true → ⊥
-wrong e = cc
-
-kind_fits : (v : Value) (t : ExprType) → IsTrue (is_of v t) → IsTrue (fits v (kind_of t))
-kind_fits Null Unknown e = refl
-kind_fits (Truth b) Unknown e = absurd (wrong e)
-kind_fits (Int n) Unknown e = absurd (wrong e)
-kind_fits (Fixed n) Unknown e = absurd (wrong e)
-kind_fits (Text t) Unknown e = absurd (wrong e)
-kind_fits v (Of k) e = e
-
-record FitAll (columns : List ScopeColumn) (values : List Marked) : Type 0 where
-  count : length values ≡ length (bare_columns columns)
-  fit : IsTrue (values_fit (bare_columns columns) values)
-
-module _ (types : TypeSetting) where
-  keys_are : (items : List Item) (columns : List ScopeColumn) → item_columns types items ≡ Ok columns → column_keys columns ≡ map (λ n. (None, n)) (item_names items)
-  keys_are [] columns e = ap column_keys (sym (the_same [] columns e))
-  keys_are (i ∷ is) columns e =
-      let p = then_ok (item_column types i) (λ y. and_then (collect (item_column types) is) (λ ys. Ok (y ∷ ys))) columns e in
-      let q = then_ok (collect (item_column types) is) (λ ys. fine (p.0 ∷ ys)) columns p.2 in
-      let t = then_ok (type_at types i.expr) (λ t. fine (output_column i.name t)) p.0 p.1 in
-      ap column_keys (sym (the_same (p.0 ∷ q.0) columns q.2))
-      ∙ (ap (λ c. column_key c ∷ column_keys q.0) (sym (the_same (output_column i.name t.0) p.0 t.2)) ∙ ap (λ z. (None, i.name) ∷ z) (keys_are is q.0 q.1))
-
-  module _ (s : MarkedSetting) (f : FitsSetting s types) (picks : List Pick) (cell : ℕ) where
-    values_are : (items : List Item) (columns : List ScopeColumn) (values : List Marked) → item_columns types items ≡ Ok columns → group_values items picks cell s ≡ Ok values → FitAll columns values
-    values_are [] columns values e k =
-        subst (λ z. FitAll z values) (the_same [] columns e) (subst (FitAll []) (the_same [] values k) (record { count = refl; fit = refl }))
-    values_are (i ∷ is) columns values e k =
-        let p = then_ok (item_column types i) (λ y. and_then (collect (item_column types) is) (λ ys. Ok (y ∷ ys))) columns e in
-        let q = then_ok (collect (item_column types) is) (λ ys. fine (p.0 ∷ ys)) columns p.2 in
-        let t = then_ok (type_at types i.expr) (λ t. fine (output_column i.name t)) p.0 p.1 in
-        let m = then_ok (group_value picks cell s i) (λ y. and_then (collect (group_value picks cell s) is) (λ ys. Ok (y ∷ ys))) values k in
-        let n = then_ok (collect (group_value picks cell s) is) (λ ys. fine (m.0 ∷ ys)) values m.2 in
-        let seen = marked_at s picks cell i.expr in
-        let v = then_ok seen.answer (λ v. fine (record { value = v; marked = seen.marked })) m.0 m.1 in
-        let rest = values_are is q.0 n.0 q.1 n.1 in
-        let good = kind_fits v.0 t.0 (keeps_type i.expr s types picks cell f t.0 v.0 t.1 v.1) in
-        subst (λ z. FitAll z values) (ap (λ c. c ∷ q.0) (the_same (output_column i.name t.0) p.0 t.2) ∙ the_same (p.0 ∷ q.0) columns q.2)
-        (subst (FitAll (output_column i.name t.0 ∷ q.0)) (ap (λ w. w ∷ n.0) (the_same (record { value = v.0; marked = seen.marked }) m.0 v.2) ∙ the_same (m.0 ∷ n.0) values n.2)
-        (record { count = ap suc rest.count; fit = rw good rest.fit }))
 
 -- ---- the rows
 
