@@ -41,7 +41,7 @@ use Rattle.sql_plan.specs.Cores.{join_checked, tables_checked, is_grouped, keys_
 use Rattle.sql_plan.specs.Plan.{outputs, agrees, all_agree, sides_checked}
 use Rattle.expr_meaning.specs.Types.{over_columns}
 use Rattle.sql_plan.proofs.Facts.{CoreFacts, core_facts, setting_by, names_are}
-use Rattle.sql_meaning.specs.Steps.{Steps, kind_of, table_of, opened_as, rel_at, joined_with, joined_tables, filter_if, output_by, distinct_if, core_rel, all_united, limit_if, headings_of}
+use Rattle.sql_meaning.specs.Steps.{Steps, kind_of, table_of, as_relation_under, rel_at, joined_with, joined_tables, filter_if, output_by, distinct_if, core_rel, all_united, limit_if, headings_of}
 use Rattle.sql_meaning.specs.Select.{marked_steps}
 use Rattle.sql_meaning.specs.Calls.{IsPlanned, ArePlanned, AllAgree, SidesAgree}
 use Rattle.sql_meaning.proofs.KeyNames.{outputs_kept}
@@ -131,10 +131,10 @@ module _ (picks : List Pick) (cell : ℕ) where
         by true is rest = let same : Some x.1 ≡ Some t = rw is at e in let one : x.1 ≡ t = cc in rw is (ap (λ (z : TableData). z.columns) (sym one))
         by false is rest = rw is (rest (rw is at e))
 
-    opened_columns : (t : TableRef) (o : Option TableData) (rel : RelData) → table_of tables t.dataset ≡ o → opened_as S t o ≡ Ok rel → Cols rel ≡ table_columns H t
+    opened_columns : (t : TableRef) (o : Option TableData) (rel : RelData) → table_of tables t.dataset ≡ o → as_relation_under S t o ≡ Ok rel → Cols rel ≡ table_columns H t
     opened_columns t None rel is e = cc
     opened_columns t (Some table) rel is e =
-        ap Cols (sym (the_same (S.opened (Some t.qualifier) table) rel e)) ∙ ap (map (qualified (Some t.qualifier))) (table_there tables t.dataset table is)
+        ap Cols (sym (the_same (S.as_relation (Some t.qualifier) table) rel e)) ∙ ap (map (qualified (Some t.qualifier))) (table_there tables t.dataset table is)
 
     -- a table under its qualifier
     pub rel_columns : (t : TableRef) (rel : RelData) → rel_at S tables t ≡ Ok rel → Cols rel ≡ table_columns H t

@@ -31,7 +31,7 @@ use Rattle.sql_plan.specs.declared.plan.Plan.{Plan}
 use Rattle.sql_plan.specs.Folds.{folded}
 use Rattle.sql_plan.specs.Plan.{checked}
 use Rattle.sql_meaning.specs.declared.source.Source.{Source}
-use Rattle.sql_meaning.specs.Steps.{Steps, kind_of, table_of, opened_as, rel_at, joined_with, joined_tables, filter_if, output_by, distinct_if, core_rel, all_united, limit_if, planned, headings_of, selected}
+use Rattle.sql_meaning.specs.Steps.{Steps, kind_of, table_of, as_relation_under, rel_at, joined_with, joined_tables, filter_if, output_by, distinct_if, core_rel, all_united, limit_if, planned, headings_of, selected}
 use Rattle.sql_meaning.specs.Sources.{source_if, source_in, sources_in, named_table, named_tables, any_doubt}
 use Rattle.sql_meaning.specs.Select.{marked_steps, select_slot, select_meaning}
 use Rattle.sql_meaning.specs.Plain.{plain_steps, plain_rel_table, plain_source_if, plain_sources, plain_select}
@@ -130,12 +130,12 @@ module _ (picks : List Pick) (cell : ℕ) where
     headings_erase [] = refl
     headings_erase (t ∷ ts) = ap (λ hs. record { dataset = t.0; columns = t.1.columns } ∷ hs) (headings_erase ts)
 
-    opened_erases : (t : TableRef) (o : Option TableData) → E (opened_as S t o) ≡ opened_as P t (option_map erased o)
+    opened_erases : (t : TableRef) (o : Option TableData) → E (as_relation_under S t o) ≡ as_relation_under P t (option_map erased o)
     opened_erases t None = refl
     opened_erases t (Some table) = refl
 
     rel_erases : (t : TableRef) → E (rel_at S tables t) ≡ rel_at P plain t
-    rel_erases t = opened_erases t (table_of tables t.dataset) ∙ ap (opened_as P t) (table_erases tables t.dataset)
+    rel_erases t = opened_erases t (table_of tables t.dataset) ∙ ap (as_relation_under P t) (table_erases tables t.dataset)
 
     joined_erases : (sofar : RelData) (j : JoinPart) → E (joined_with S tables sofar j) ≡ joined_with P plain (erased_rel sofar) j
     joined_erases sofar j =
@@ -165,17 +165,17 @@ module _ (picks : List Pick) (cell : ℕ) where
     planned_erases : (plan : Plan) (count : Option ℕ) → mapped erased (planned S tables plan count) ≡ planned P plain plan count
     planned_erases plan count =
         then_mapped (map erased_rel) erased (collect (core_rel S tables) plan.cores) (collect (core_rel P plain) plan.cores)
-        (λ rels. and_then (all_united S rels) (λ all. and_then (S.sort all plan.order) (λ ordered. and_then (limit_if S ordered count) (λ first. S.closed first))))
-        (λ rels. and_then (all_united P rels) (λ all. and_then (P.sort all plan.order) (λ ordered. and_then (limit_if P ordered count) (λ first. P.closed first))))
+        (λ rels. and_then (all_united S rels) (λ all. and_then (S.sort all plan.order) (λ ordered. and_then (limit_if S ordered count) (λ first. S.as_table first))))
+        (λ rels. and_then (all_united P rels) (λ all. and_then (P.sort all plan.order) (λ ordered. and_then (limit_if P ordered count) (λ first. P.as_table first))))
         (collect_mapped erased_rel (core_rel S tables) (core_rel P plain) core_erases plan.cores) (λ rels.
         then_mapped erased_rel erased (all_united S rels) (all_united P (map erased_rel rels))
-        (λ all. and_then (S.sort all plan.order) (λ ordered. and_then (limit_if S ordered count) (λ first. S.closed first)))
-        (λ all. and_then (P.sort all plan.order) (λ ordered. and_then (limit_if P ordered count) (λ first. P.closed first)))
+        (λ all. and_then (S.sort all plan.order) (λ ordered. and_then (limit_if S ordered count) (λ first. S.as_table first)))
+        (λ all. and_then (P.sort all plan.order) (λ ordered. and_then (limit_if P ordered count) (λ first. P.as_table first)))
         (united_erases rels) (λ all.
         then_mapped erased_rel erased (S.sort all plan.order) (P.sort (erased_rel all) plan.order)
-        (λ ordered. and_then (limit_if S ordered count) (λ first. S.closed first)) (λ ordered. and_then (limit_if P ordered count) (λ first. P.closed first))
+        (λ ordered. and_then (limit_if S ordered count) (λ first. S.as_table first)) (λ ordered. and_then (limit_if P ordered count) (λ first. P.as_table first))
         (sort_erases plan.order all) (λ ordered.
-        then_mapped erased_rel erased (limit_if S ordered count) (limit_if P (erased_rel ordered) count) (λ first. S.closed first) (λ first. P.closed first)
+        then_mapped erased_rel erased (limit_if S ordered count) (limit_if P (erased_rel ordered) count) (λ first. S.as_table first) (λ first. P.as_table first)
         (limit_if_erases ordered count) closed_erases)))
 
     selected_erases : (select : Select) → mapped erased (selected S tables select) ≡ selected P plain select

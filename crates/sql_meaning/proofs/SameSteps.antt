@@ -42,7 +42,7 @@ use Rattle.sql_plan.specs.Headings.{table_columns}
 use Rattle.sql_plan.specs.Plan.{checked}
 use Rattle.sql_plan.specs.Conditions.{some_condition_checked}
 use Rattle.sql_plan.proofs.Facts.{core_facts, setting_by}
-use Rattle.sql_meaning.specs.Steps.{Steps, kind_of, table_of, opened_as, rel_at, joined_with, joined_tables, filter_if, output_by, distinct_if, core_rel, all_united, limit_if, planned, headings_of, selected}
+use Rattle.sql_meaning.specs.Steps.{Steps, kind_of, table_of, as_relation_under, rel_at, joined_with, joined_tables, filter_if, output_by, distinct_if, core_rel, all_united, limit_if, planned, headings_of, selected}
 use Rattle.sql_meaning.specs.Select.{marked_steps}
 use Rattle.sql_meaning.specs.Calls.{IsPlanned, ArePlanned, AreJoinable, AllAgree, SidesAgree}
 use Rattle.sql_meaning.proofs.KeyNames.{having_kept}
@@ -201,7 +201,7 @@ module _ (picks others : List Pick) (cell : ℕ) where
   all_united_pair [] (s ∷ ss) x y agree ps e k = absurd ps
   all_united_pair (r ∷ rs) [] x y agree ps e k = absurd ps
 
-  opened_pair : (t : TableRef) (o q : Option TableData) (x y : RelData) → MaySame o q → opened_as S t o ≡ Ok x → opened_as O t q ≡ Ok y → Pair x y
+  opened_pair : (t : TableRef) (o q : Option TableData) (x y : RelData) → MaySame o q → as_relation_under S t o ≡ Ok x → as_relation_under O t q ≡ Ok y → Pair x y
   opened_pair t None None x y s e k = cc
   opened_pair t (Some a) (Some b) x y s e k =
       pair_at (table_rel (Some t.qualifier) a) (table_rel (Some t.qualifier) b) x y (record {
@@ -287,15 +287,15 @@ module _ (picks others : List Pick) (cell : ℕ) where
     planned_same select plan x y is e k =
         let facts = plan_facts H select plan is in
         let m = then_ok (collect (core_rel S ts) plan.cores) (λ rels. and_then (all_united S rels) (λ all. and_then (S.sort all plan.order) (λ ordered.
-        and_then (limit_if S ordered select.limit) (λ first. S.closed first)))) x e in
+        and_then (limit_if S ordered select.limit) (λ first. S.as_table first)))) x e in
         let n = then_ok (collect (core_rel O us) plan.cores) (λ rels. and_then (all_united O rels) (λ all. and_then (O.sort all plan.order) (λ ordered.
-        and_then (limit_if O ordered select.limit) (λ first. O.closed first)))) y k in
-        let m2 = then_ok (all_united S m.0) (λ all. and_then (S.sort all plan.order) (λ ordered. and_then (limit_if S ordered select.limit) (λ first. S.closed first))) x m.2 in
-        let n2 = then_ok (all_united O n.0) (λ all. and_then (O.sort all plan.order) (λ ordered. and_then (limit_if O ordered select.limit) (λ first. O.closed first))) y n.2 in
-        let m3 = then_ok (S.sort m2.0 plan.order) (λ ordered. and_then (limit_if S ordered select.limit) (λ first. S.closed first)) x m2.2 in
-        let n3 = then_ok (O.sort n2.0 plan.order) (λ ordered. and_then (limit_if O ordered select.limit) (λ first. O.closed first)) y n2.2 in
-        let m4 = then_ok (limit_if S m3.0 select.limit) (λ first. S.closed first) x m3.2 in
-        let n4 = then_ok (limit_if O n3.0 select.limit) (λ first. O.closed first) y n3.2 in
+        and_then (limit_if O ordered select.limit) (λ first. O.as_table first)))) y k in
+        let m2 = then_ok (all_united S m.0) (λ all. and_then (S.sort all plan.order) (λ ordered. and_then (limit_if S ordered select.limit) (λ first. S.as_table first))) x m.2 in
+        let n2 = then_ok (all_united O n.0) (λ all. and_then (O.sort all plan.order) (λ ordered. and_then (limit_if O ordered select.limit) (λ first. O.as_table first))) y n.2 in
+        let m3 = then_ok (S.sort m2.0 plan.order) (λ ordered. and_then (limit_if S ordered select.limit) (λ first. S.as_table first)) x m2.2 in
+        let n3 = then_ok (O.sort n2.0 plan.order) (λ ordered. and_then (limit_if O ordered select.limit) (λ first. O.as_table first)) y n2.2 in
+        let m4 = then_ok (limit_if S m3.0 select.limit) (λ first. S.as_table first) x m3.2 in
+        let n4 = then_ok (limit_if O n3.0 select.limit) (λ first. O.as_table first) y n3.2 in
         let sides = sides_agree picks cell ts plan.cores m.0 facts.agree facts.cores m.1 facts.sides in
         let all = all_united_pair m.0 n.0 m2.0 n2.0 sides (cores_pair plan.cores m.0 n.0 facts.cores m.1 n.1) m2.1 n2.1 in
         let first = limit_if_pair m3.0 n3.0 m4.0 n4.0 select.limit (sort_pair m2.0 n2.0 m3.0 n3.0 plan.order all m3.1 n3.1) m4.1 n4.1 in

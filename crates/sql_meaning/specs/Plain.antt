@@ -30,7 +30,7 @@ plain_rel_table r =
 abbrev pub plain_steps : List Pick → ℕ → Steps PlainTable PlainRel
 plain_steps picks cell = record {
   columns = λ t. t.columns;
-  opened = plain_table_rel;
+  as_relation = plain_table_rel;
   join = λ kind a b on. plain_joined kind a b on picks cell;
   filter = λ rel condition. plain_filtered rel condition picks cell;
   project = λ rel items. plain_projected rel items picks cell;
@@ -40,7 +40,7 @@ plain_steps picks cell = record {
   union = plain_united;
   sort = plain_ordered;
   limit = plain_limited;
-  closed = plain_rel_table;
+  as_table = plain_rel_table;
 }
 
 -- the table under its name, if there is one

@@ -22,7 +22,7 @@ use Rattle.sql_meaning.specs.Sources.{sources_in, names_read, named_tables, any_
 abbrev pub marked_steps : List Pick → ℕ → Steps TableData RelData
 marked_steps picks cell = record {
   columns = λ t. t.columns;
-  opened = table_rel;
+  as_relation = table_rel;
   join = λ kind a b on. joined kind a b on picks cell;
   filter = λ rel condition. filtered rel condition picks cell;
   project = λ rel items. projected rel items picks cell;
@@ -32,7 +32,7 @@ marked_steps picks cell = record {
   union = united;
   sort = ordered;
   limit = limited;
-  closed = rel_table;
+  as_table = rel_table;
 }
 
 -- the table under these datasets, doubtful where one of them is

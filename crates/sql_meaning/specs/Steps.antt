@@ -25,7 +25,7 @@ pub record Steps (T R : Type 0) : Type 0 where
   -- the columns of a table
   pub columns : T → List Column
   -- a table as a relation, its columns under a qualifier
-  pub opened : Option Name → T → R
+  pub as_relation : Option Name → T → R
   -- JOIN and LEFT JOIN
   pub join : Kind → R → R → Expr → Answer R
   -- WHERE
@@ -45,7 +45,7 @@ pub record Steps (T R : Type 0) : Type 0 where
   -- LIMIT
   pub limit : R → ℕ → Answer R
   -- a relation as a table, its columns without their qualifiers
-  pub closed : R → Answer T
+  pub as_table : R → Answer T
 
 -- INNER or LEFT
 abbrev pub kind_of : Bool → Kind
@@ -59,13 +59,13 @@ table_of (t ∷ ts) name = if bytes_eq t.0 name then Some t.1 else table_of ts n
 
 module _ {T R : Type 0} (steps : Steps T R) where
   -- the relation of a table, where it was read
-  abbrev pub opened_as : TableRef → Option T → Answer R
-  opened_as t None = Err error.NoDataset
-  opened_as t (Some table) = Ok (steps.opened (Some t.qualifier) table)
+  abbrev pub as_relation_under : TableRef → Option T → Answer R
+  as_relation_under t None = Err error.NoDataset
+  as_relation_under t (Some table) = Ok (steps.as_relation (Some t.qualifier) table)
 
   -- a table of FROM under its qualifier
   abbrev pub rel_at : List (Name × T) → TableRef → Answer R
-  rel_at tables t = opened_as t (table_of tables t.dataset)
+  rel_at tables t = as_relation_under t (table_of tables t.dataset)
 
   -- the tables joined so far with one more
   abbrev pub joined_with : List (Name × T) → R → JoinPart → Answer R
@@ -115,7 +115,7 @@ module _ {T R : Type 0} (steps : Steps T R) where
       and_then (all_united rels) (λ all.
       and_then (steps.sort all plan.order) (λ ordered.
       and_then (limit_if ordered count) (λ first.
-      steps.closed first))))
+      steps.as_table first))))
 
   -- the columns of the tables
   abbrev pub headings_of : List (Name × T) → List Heading
