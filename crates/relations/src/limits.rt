@@ -33,8 +33,8 @@ fn text_size(value: &Value) -> u64
     }
 }
 
-// The bytes of text in a row, or the last value of u64 where there are more.
-fn row_size(row: &Row) -> u64
+/// The bytes of text in a row, its id's among them, or the last value of u64 where there are more.
+pub fn row_size(row: &Row) -> u64
     ensures { result ≡ min (row_size row.now) (2 ^ 64 - 1) }
 {
     let mut size = id_weight(&row.id);
