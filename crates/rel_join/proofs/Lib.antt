@@ -7,4 +7,5 @@ pub mod ApartKeys
 pub mod ComparedPlaces
 pub mod PairLoop
 pub mod FewRows
+pub mod LoneRows
 mod Examples

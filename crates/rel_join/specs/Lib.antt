@@ -6,5 +6,7 @@ pub mod Laws
 pub mod Rules
 -- ON that compares two columns
 pub mod Equalities
+-- rows that are kept while they are few
+pub mod Few
 -- what the functions inside the crate promise each other
 pub mod Jobs

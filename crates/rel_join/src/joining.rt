@@ -1,13 +1,14 @@
 //! JOIN and LEFT JOIN.
-ghost use Rattle.std.specs.Prelude.{◌≡◌, ◌++◌, IfOk, OnOk};
-ghost use Rattle.cell_errors.specs.Answers.{Gives};
-ghost use Rattle.relations.specs.Batches.{gathered};
+ghost use Rattle.std.specs.Prelude.{◌≡◌, ◌++◌, IfOk};
+ghost use Rattle.cell_errors.specs.Answers.{Gives, and_then};
 ghost use Rattle.rel_join.specs.Join.{few_pairs, joined};
-ghost use Rattle.rel_join.specs.Jobs.{HasPlaces, both_few, few_rows, job_row, job_rows, job_joined, few_joined};
+ghost use Rattle.rel_join.specs.Few.{few_of};
+ghost use Rattle.rel_join.specs.Jobs.{HasPlaces, job_row, job_rows, job_joined, few_joined};
 ghost use Rattle.rel_join.specs.Rules.{AreApart};
 ghost use Rattle.rel_join.specs.declared.kind.Kind.TheVariants as kind;
 
 use crate::equality::equality_of;
+use crate::few::Few;
 use crate::kind::Kind;
 use crate::lone::finish;
 use crate::pairs::{Job, pairs};
@@ -15,14 +16,15 @@ use cell_errors::{CellError, EvalFault};
 use dataset_types::{Picks, Row};
 use expr_lang::Expr;
 use expr_meaning::Scope;
-use relations::{Batch, Rel};
+use relations::Rel;
 use std::alloc::Global;
 use value_types::NoMemory;
 
-/// All that a join makes of one left row.
-fn left_row(alloc: Global, job: &Job, row: &Row) -> Result<Batch, EvalFault>
+/// All that a join makes of one left row, where that is few.
+#[tactic(auto, using(crate::proofs::LoneRows::few_row))]
+fn left_row(alloc: Global, job: &Job, row: &Row) -> Result<Few, EvalFault>
     requires { HasPlaces job.now }
-    ensures { Gives result (job_row job.now row.now) }
+    ensures { Gives result (few_of (job_row job.now row.now)) }
 {
     let found = pairs(alloc, job, row)?;
     let width = job.right.columns().len();
@@ -30,41 +32,19 @@ fn left_row(alloc: Global, job: &Job, row: &Row) -> Result<Batch, EvalFault>
     Ok(finish(alloc, job.kind, width, is_open, row, found)?)
 }
 
-/// The rows of one left row after those of others, unless these are too many.
-fn add_few(alloc: Global, all: &mut Batch, more: Batch) -> Result<(), NoMemory>
-    ensures { OnOk result (all.new ≡ both_few all.old more) }
-{
-    if all.rows.len() <= 65_536 {
-        all.add(alloc, more)?;
-    }
-    Ok(())
-}
-
-/// `TooLarge` where there are more than 65,536 rows.
-fn allow_rows(all: Batch) -> Result<Batch, CellError>
-    ensures { result ≡ few_rows all }
-{
-    if all.rows.len() <= 65_536 {
-        Ok(all)
-    } else {
-        Err(CellError::TooLarge)
-    }
-}
-
-/// What a join makes of each left row, in order.
-///
-/// Past 65,536 rows no more are kept, for the result is `TooLarge` then, unless a later pair is in error.
+/// What a join makes of each left row, in order, where all is few.
 #[tactic(auto, using(crate::proofs::FewRows::few))]
-fn left_rows(alloc: Global, job: &Job, rows: &[Row]) -> Result<Batch, EvalFault>
+fn left_rows(alloc: Global, job: &Job) -> Result<Few, EvalFault>
     requires { HasPlaces job.now }
-    ensures { Gives result (job_rows job.now rows.now) }
+    ensures { Gives result (job_rows job.now) }
 {
-    let mut all = Batch::new(alloc)?;
-    for row in rows {
+    let mut all = Few::new(alloc)?;
+    for row in job.left.rows().as_slice() {
         let made = left_row(alloc, job, row)?;
-        add_few(alloc, &mut all, made)?;
+        all.add(alloc, made)?;
     }
-    Ok(allow_rows(all)?)
+    all.law_of_few();
+    Ok(all)
 }
 
 /// At most 16,000,000 pairs are looked at.
@@ -90,13 +70,15 @@ fn join_few(alloc: Global, columns: Scope, job: &Job) -> Result<Rel, EvalFault>
     requires columns { columns ≡ job.now.left.now.columns ++ job.now.right.now.columns }
     requires places { HasPlaces job.now }
     requires apart { AreApart job.now.left.now.columns job.now.right.now.columns }
-    ensures { Gives result (few_joined job.now.left.now job.now.right.now (gathered (job_row job.now) job.now.left.now.rows)) }
+    ensures { Gives result
+        (and_then (job_rows job.now) (few_joined job.now.left.now job.now.right.now)) }
 {
     let left = job.left;
     let right = job.right;
     left.law_of_rules();
     right.law_of_rules();
-    let made = left_rows(alloc, job, left.rows().as_slice())?;
+    let all = left_rows(alloc, job)?;
+    let made = all.into_batch().ok_or(CellError::TooLarge)?;
     let is_open = left.is_open() | right.is_open() | made.marked;
     let is_loose = left.is_loose() | right.is_loose();
     Rel::new(alloc, columns, made.rows, is_open, is_loose)

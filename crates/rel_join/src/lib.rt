@@ -6,6 +6,7 @@
 
 mod apart;
 mod equality;
+mod few;
 mod joining;
 mod kind;
 mod laws;

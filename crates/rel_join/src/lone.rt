@@ -1,10 +1,12 @@
 //! Left rows that have no pair.
 ghost use Rattle.std.specs.Prelude.{◌≡◌, replicate, IfOk};
+ghost use Rattle.std.specs.Option.{option_and_then};
+ghost use Rattle.rel_join.specs.Few.{if_few};
 ghost use Rattle.rel_join.specs.Join.{alone, by_kind, null_value};
 
+use crate::few::Few;
 use crate::kind::Kind;
 use dataset_types::{Marked, MarkedValues, Row};
-use relations::Batch;
 use sqlite_items::Boxed;
 use std::alloc::Global;
 use value_types::{NoMemory, RowId, Value};
@@ -49,18 +51,22 @@ pub fn finish(
     width: usize,
     right_open: bool,
     left: &Row,
-    found: Batch,
-) -> Result<Batch, NoMemory>
-    ensures { IfOk result (λ b. b ≡ by_kind kind width right_open left.now found) }
+    mut found: Few,
+) -> Result<Few, NoMemory>
+    ensures { IfOk result (λ f. f
+        ≡ option_and_then (λ m. if_few (by_kind kind width right_open left.now m)) found) }
 {
-    match kind {
-        Kind::Inner => Ok(found),
-        Kind::Outer => {
-            let Batch { mut rows, marked } = found;
-            if rows.len() == 0 {
-                rows.push(alloc, stand_alone(alloc, width, right_open, marked, left)?)?;
+    found.law_of_few();
+    if let Kind::Outer = kind {
+        let lone = match found.batch() {
+            Some(batch) if batch.rows.len() == 0 => {
+                Some(stand_alone(alloc, width, right_open, batch.marked, left)?)
             }
-            Ok(Batch { rows, marked })
+            _ => None,
+        };
+        if let Some(row) = lone {
+            found.push(alloc, row, false)?;
         }
     }
+    Ok(found)
 }

@@ -2,22 +2,22 @@
 //!
 //! The left row is bound once, and the values of one right row after another are put behind it and cut off again. Where ON compares
 //! two columns no row is bound.
-ghost use Rattle.std.specs.Prelude.{◌≡◌, ◌++◌, IfOk, OnOk, take, slice_get};
+ghost use Rattle.std.specs.Prelude.{◌≡◌, ◌++◌, IfOk, OnOk, take, slice_get, Some};
 ghost use Rattle.std.specs.Option.{option_copied};
 ghost use Rattle.cell_errors.specs.Answers.{Gives};
-ghost use Rattle.relations.specs.Batches.{both};
 ghost use Rattle.relations.specs.Conditions.{kept};
 ghost use Rattle.rel_join.specs.Join.{paired};
-ghost use Rattle.rel_join.specs.Equalities.{ComparesPlaces};
-ghost use Rattle.rel_join.specs.Jobs.{HasPlaces, job_test, job_on, job_pairs};
+ghost use Rattle.rel_join.specs.Few.{few_of, both_few};
+ghost use Rattle.rel_join.specs.Jobs.{HasPlaces, ComparesOn, job_test, job_on, job_pairs};
 
 use crate::equality::{Equality, test_equal};
+use crate::few::Few;
 use crate::kind::Kind;
 use cell_errors::EvalFault;
 use dataset_types::{Marked, Picks, Row};
 use expr_lang::Expr;
 use expr_meaning::Bindings;
-use relations::{Batch, Rel, Test, bind, bind_more, test_row};
+use relations::{Rel, Test, bind, bind_more, test_row};
 use sqlite_items::Boxed;
 use std::alloc::Global;
 use std::mem;
@@ -50,20 +50,21 @@ fn pair(alloc: Global, left: &Row, right: &Row) -> Result<Row, NoMemory>
     })
 }
 
-/// The pair put after those that were found, where the test holds. No row is made where it doesn't.
+/// The pair put after those that were found, where the test holds. No row is made where it doesn't, or where pairs aren't few.
 fn keep_pair(
     alloc: Global,
-    found: &mut Batch,
+    found: &mut Few,
     left: &Row,
     right: &Row,
     test: Test,
 ) -> Result<(), NoMemory>
-    ensures { OnOk result (found.new ≡ both found.old (kept (paired left.now right.now) test)) }
+    ensures { OnOk result (found.new
+        ≡ both_few found.old (Some (kept (paired left.now right.now) test))) }
 {
-    if test.holds {
-        found.keep(alloc, pair(alloc, left, right)?, test)?;
-    } else {
-        found.marked |= test.marked;
+    if !test.holds {
+        found.mark(test.marked);
+    } else if found.batch().is_some() {
+        found.push(alloc, pair(alloc, left, right)?, test.marked)?;
     }
     Ok(())
 }
@@ -94,15 +95,16 @@ fn test_pair(alloc: Global, job: &Job, left: &mut Bindings, right: &Row) -> Resu
 }
 
 #[tactic(auto, using(crate::proofs::PairLoop::pairing))]
-fn bound_pairs(alloc: Global, job: &Job, left: &Row) -> Result<Batch, EvalFault>
-    ensures { Gives result (job_pairs job.now left.now) }
+fn bound_pairs(alloc: Global, job: &Job, left: &Row) -> Result<Few, EvalFault>
+    ensures { Gives result (few_of (job_pairs job.now left.now)) }
 {
     let mut bound = bind(alloc, job.left.columns().as_slice(), left.values.as_slice())?;
-    let mut found = Batch::new(alloc)?;
+    let mut found = Few::new(alloc)?;
     for right in job.right.rows().as_slice() {
         let test = test_pair(alloc, job, &mut bound, right)?;
         keep_pair(alloc, &mut found, left, right, test)?;
     }
+    found.law_of_few();
     Ok(found)
 }
 
@@ -126,7 +128,7 @@ fn test_places(
     left: &Row,
     right: &Row,
 ) -> Result<Test, EvalFault>
-    requires { ComparesPlaces (job.now.left.now.columns ++ job.now.right.now.columns) at job.now.on.now }
+    requires { ComparesOn job.now at }
     ensures { Gives result (job_on job.now left.now right.now) }
 {
     let lefts = left.values.as_slice();
@@ -143,24 +145,25 @@ fn test_places(
 }
 
 #[tactic(auto, using(crate::proofs::PairLoop::pairing))]
-fn equal_pairs(alloc: Global, job: &Job, at: Equality, left: &Row) -> Result<Batch, EvalFault>
-    requires { ComparesPlaces (job.now.left.now.columns ++ job.now.right.now.columns) at job.now.on.now }
-    ensures { Gives result (job_pairs job.now left.now) }
+fn equal_pairs(alloc: Global, job: &Job, at: Equality, left: &Row) -> Result<Few, EvalFault>
+    requires { ComparesOn job.now at }
+    ensures { Gives result (few_of (job_pairs job.now left.now)) }
 {
-    let mut found = Batch::new(alloc)?;
+    let mut found = Few::new(alloc)?;
     for right in job.right.rows().as_slice() {
         let test = test_places(alloc, job, at, left, right)?;
         keep_pair(alloc, &mut found, left, right, test)?;
     }
+    found.law_of_few();
     Ok(found)
 }
 
-/// The pairs of a left row, in the order of right rows.
+/// The pairs of a left row, in the order of right rows, where they are few.
 ///
 /// - Error: the first of an ON.
-pub fn pairs(alloc: Global, job: &Job, left: &Row) -> Result<Batch, EvalFault>
+pub fn pairs(alloc: Global, job: &Job, left: &Row) -> Result<Few, EvalFault>
     requires { HasPlaces job.now }
-    ensures { Gives result (job_pairs job.now left.now) }
+    ensures { Gives result (few_of (job_pairs job.now left.now)) }
 {
     match job.equality {
         None => bound_pairs(alloc, job, left),

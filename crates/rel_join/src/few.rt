@@ -1,0 +1,144 @@
+//! Rows that are kept while they are few.
+//!
+//! A join may make far more than any result may have. Where its rows become too many, or their text too long, all are
+//! given up and no more are kept, for what comes after too much is too much.
+ghost use Rattle.std.specs.Prelude.{◌≡◌, ◌-◌, ◌^◌, ◌&&◌, min, nat_le, true, Ok, OnOk, IfSome, IsTrue, Some, []};
+ghost use Rattle.dataset_types.specs.Tables.{text_size, row_size};
+ghost use Rattle.relations.specs.Batches.{nothing};
+ghost use Rattle.relations.specs.Conditions.{kept};
+ghost use Rattle.rel_join.specs.Few.{are_few, both_few};
+
+use dataset_types::Row;
+use relations::{Batch, Test};
+use std::alloc::Global;
+use std::marker::Model;
+use value_types::{NoMemory, Value, id_weight};
+
+fn text_size(value: &Value) -> u64
+    ensures { result ≡ text_size value.now }
+{
+    match value {
+        Value::Text(text) => text.len() as u64,
+        _ => 0,
+    }
+}
+
+// The bytes of text in a row, or the last value of u64 where there are more.
+fn row_size(row: &Row) -> u64
+    ensures { result ≡ min (row_size row.now) (2 ^ 64 - 1) }
+{
+    let mut size = id_weight(&row.id);
+    for marked in row.values.as_slice() {
+        size = size.saturating_add(text_size(&marked.value));
+    }
+    size
+}
+
+fn are_within(rows: usize, bytes: u64) -> bool
+    ensures { result ≡ nat_le rows 65536 && nat_le bytes 1048576 }
+{
+    rows <= 65_536 && bytes <= 1_048_576
+}
+
+/// A batch while its rows are few, and nothing from there on.
+#[derive(Drop)]
+pub struct Few {
+    kept: Option<Batch>,
+    /// The bytes of text in what is kept.
+    bytes: u64,
+}
+
+impl Model for Few {
+    ghost use Rattle.std.specs.Prelude.{Option};
+    ghost use Rattle.std.specs.Coded.{codes};
+    ghost use Rattle.value_types.specs.contracts.row_id.RowId as row_id;
+    ghost use Rattle.relations.specs.declared.batch.Batch.{Batch};
+    ghost use Rattle.rel_join.specs.Few.{AreCounted};
+
+    ghost Value = { Option Batch };
+
+    ghost coded = { Prim.hlevel (codes, row_id.the_row.coded) };
+
+    ghost view = { λ f. f.kept };
+
+    ghost invariant = { λ f. AreCounted f.kept f.bytes };
+}
+
+impl Few {
+    /// No rows.
+    pub fn new(alloc: Global) -> Result<Few, NoMemory>
+        ensures { result ≡ Ok (Some nothing) }
+    {
+        Ok(Few {
+            kept: Some(Batch::new(alloc)?),
+            bytes: 0,
+        })
+    }
+
+    /// What is kept is few.
+    pub fn law_of_few(&self)
+        ensures { IfSome self.now (λ m. IsTrue (are_few m.rows)) }
+    {
+        let _bytes = self.bytes;
+    }
+
+    /// What is kept.
+    pub fn batch(&self) -> &Option<Batch>
+        ensures { result.now ≡ self.now }
+    {
+        &self.kept
+    }
+
+    /// What is kept, where this is done with.
+    pub fn into_batch(self) -> Option<Batch>
+        ensures { result ≡ self }
+    {
+        self.kept
+    }
+
+    /// The mark of a test that doesn't hold.
+    pub fn mark(&mut self, marked: bool)
+        ensures { self.new ≡ both_few self.old (Some (record { rows = []; marked = marked })) }
+    {
+        if let Some(batch) = &mut self.kept {
+            batch.marked |= marked;
+        }
+    }
+
+    /// A row whose test holds, put after its own.
+    pub fn push(&mut self, alloc: Global, row: Row, marked: bool) -> Result<(), NoMemory>
+        ensures { OnOk result (self.new
+            ≡ both_few self.old (Some (kept row (record { holds = true; marked = marked })))) }
+    {
+        let bytes = self.bytes.saturating_add(row_size(&row));
+        if let Some(mut batch) = self.kept.take() {
+            if are_within(batch.rows.len() + 1, bytes) {
+                let holds = true;
+                batch.keep(alloc, row, Test { holds, marked })?;
+                *self = Few {
+                    kept: Some(batch),
+                    bytes,
+                };
+            }
+        }
+        Ok(())
+    }
+
+    /// The rows of another after its own.
+    pub fn add(&mut self, alloc: Global, more: Few) -> Result<(), NoMemory>
+        ensures { OnOk result (self.new ≡ both_few self.old more) }
+    {
+        let bytes = self.bytes.saturating_add(more.bytes);
+        let all = self.kept.take();
+        if let (Some(mut batch), Some(others)) = (all, more.kept) {
+            if are_within(batch.rows.len() + others.rows.len(), bytes) {
+                batch.add(alloc, others)?;
+                *self = Few {
+                    kept: Some(batch),
+                    bytes,
+                };
+            }
+        }
+        Ok(())
+    }
+}
