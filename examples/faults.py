@@ -6,6 +6,7 @@ The last line is `N passed, M failed`, and the status is 1 where a check failed.
 """
 import json
 import os
+import resource
 import shutil
 import subprocess
 import sys
@@ -15,6 +16,7 @@ SECONDS = 120
 STREAM_LIMIT = 16777216
 FILE_LIMIT = 1048576
 CELL_LIMIT = 48
+MEMORY = 1 << 30
 LINE = (b'{"edit":"append","branch":"main","cell":{"make":"t",'
         b'"columns":[["a","int"],["b","text"]],"rows":[[1,"x"],[2,null]]}}\n')
 WIDE = (b'{"edit":"append","branch":"main","cell":{"make":"t",'
@@ -104,12 +106,12 @@ def nothing_is_read_where_the_words_are_wrong(command):
 LOAD = b'{"edit":"append","branch":"main","cell":{"load":"t","file":"f","types":["int"]}}\n'
 
 
-def at_a_load(command, words, prepared, stream=LOAD):
+def at_a_load(command, words, prepared, stream=LOAD, begun=None):
     """The program in a folder of its own, which is prepared first, over one append of a load of `f`, or another stream."""
     with tempfile.TemporaryDirectory() as place:
         prepared(os.path.join(place, "f"))
         return subprocess.run(command + words, input=stream, cwd=place, stdout=subprocess.PIPE,
-                              stderr=subprocess.PIPE, timeout=SECONDS)
+                              stderr=subprocess.PIPE, timeout=SECONDS, preexec_fn=begun)
 
 
 def wrote(run, text, status=0, name=None):
@@ -189,7 +191,31 @@ def a_picks_file_of_one_byte_too_many_is_bad(command):
     return wrote(run, b"", 5, "BadPicks 0")
 
 
+def a_long_text_and_many_numbers(path):
+    """Makes two files: `f` with one text of 1,000,000 bytes, and `fs` with 60,000 numbers."""
+    with open(path, "wb") as file:
+        file.write(b"a\n" + 1000000 * b"x" + b"\n")
+    with open(path + "s", "wb") as file:
+        file.write(b"b\n" + 60000 * b"1\n")
+
+
+def within_memory():
+    resource.setrlimit(resource.RLIMIT_AS, (MEMORY, MEMORY))
+
+
+def a_join_that_repeats_a_long_text_takes_little_memory(command):
+    """Its pairs have 60 GB of text, and the program has 1 GB of memory."""
+    stream = b"".join(edit("append", "main", cell) for cell in [
+        {"load": "t", "file": "f", "types": ["text"]}, {"load": "u", "file": "fs", "types": ["int"]},
+        {"sql": "SELECT u.b FROM t JOIN u ON TRUE", "into": "j"}])
+    run = at_a_load(command, ["serial"], a_long_text_and_many_numbers, stream, within_memory)
+    wrong = ended(run.returncode, run.stderr, 0, None)
+    said = b"version 3 main\ncell 1 #1 ok\ncell 2 #2 ok\ncell 3 #3 error TooLarge\n"
+    return wrong if said in run.stdout else wrong + [f"it wrote {run.stdout[-200:]}"]
+
+
 CHECKS = (
+    a_join_that_repeats_a_long_text_takes_little_memory,
     a_folder_that_is_loaded_is_a_file_fault,
     a_file_of_one_byte_too_many_is_refused,
     a_file_at_the_limit_is_loaded,

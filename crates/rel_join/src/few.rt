@@ -34,6 +34,7 @@ fn row_size(row: &Row) -> u64
     size
 }
 
+// Whether so many rows, and bytes of text, are within the limits of a relation.
 fn are_within(rows: usize, bytes: u64) -> bool
     ensures { result ≡ nat_le rows 65536 && nat_le bytes 1048576 }
 {

@@ -84,7 +84,7 @@ fn join_few(alloc: Global, columns: Scope, job: &Job) -> Result<Rel, EvalFault>
     Rel::new(alloc, columns, made.rows, is_open, is_loose)
 }
 
-/// What a job joins, whatever it says of the equality.
+/// The whole join. Whether its ON compares two columns is looked for here, whatever the job says.
 #[tactic(auto, using(crate::proofs::FewRows::few_are_all))]
 fn join_any(alloc: Global, job: &Job) -> Result<Rel, EvalFault>
     requires apart { AreApart job.now.left.now.columns job.now.right.now.columns }
