@@ -3,36 +3,15 @@
 //! A join may make far more than any result may have. Where its rows become too many, or their text too long, all are
 //! given up and no more are kept, for what comes after too much is too much.
 ghost use Rattle.std.specs.Prelude.{◌≡◌, ◌-◌, ◌^◌, ◌&&◌, min, nat_le, true, Ok, OnOk, IfSome, IsTrue, Some, []};
-ghost use Rattle.dataset_types.specs.Tables.{text_size, row_size};
 ghost use Rattle.relations.specs.Batches.{nothing};
 ghost use Rattle.relations.specs.Conditions.{kept};
 ghost use Rattle.rel_join.specs.Few.{are_few, both_few};
 
 use dataset_types::Row;
-use relations::{Batch, Test};
+use relations::{Batch, Test, row_size};
 use std::alloc::Global;
 use std::marker::Model;
-use value_types::{NoMemory, Value, id_weight};
-
-fn text_size(value: &Value) -> u64
-    ensures { result ≡ text_size value.now }
-{
-    match value {
-        Value::Text(text) => text.len() as u64,
-        _ => 0,
-    }
-}
-
-// The bytes of text in a row, or the last value of u64 where there are more.
-fn row_size(row: &Row) -> u64
-    ensures { result ≡ min (row_size row.now) (2 ^ 64 - 1) }
-{
-    let mut size = id_weight(&row.id);
-    for marked in row.values.as_slice() {
-        size = size.saturating_add(text_size(&marked.value));
-    }
-    size
-}
+use value_types::NoMemory;
 
 // Whether so many rows, and bytes of text, are within the limits of a relation.
 fn are_within(rows: usize, bytes: u64) -> bool
