@@ -5,6 +5,7 @@ pub mod Orders
 pub mod WhereRows
 pub mod ItemRows
 pub mod ProjectRules
+pub mod TooMany
 pub mod SameLaws
 pub mod FilterLaws
 pub mod ProjectLaws

@@ -72,6 +72,11 @@ values_at columns items picks cell r = values_over (bindings columns r.values) i
 abbrev pub item_row : List ScopeColumn → List Item → List Pick → ℕ → Row → Answer Batch
 item_row columns items picks cell r = and_then (values_at columns items picks cell r) (λ values. Ok (with_values r values))
 
+-- that there is no error, or the first
+abbrev pub checked : Answer Batch → Answer (Unit {0})
+checked (Ok b) = Ok tt
+checked (Err e) = Err e
+
 -- one row for each, under these columns
 abbrev pub projected_to : List ScopeColumn → RelData → List Item → List Pick → ℕ → Answer RelData
 projected_to columns rel items picks cell =
