@@ -9,6 +9,7 @@ pub mod ReadLots
 pub mod Placed
 pub mod GroupFits
 pub mod GroupRules
+pub mod ManyGroups
 pub mod DistinctRules
 pub mod ErasedGroup
 pub mod ShownKeys

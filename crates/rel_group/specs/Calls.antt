@@ -1,5 +1,5 @@
 -- What the functions promise each other: rows with their keys, and how they are put into lots, which stand for groups.
-use Rattle.std.specs.Prelude.{◌≡◌, ℕ, suc, Bool, true, false, ◌||◌, ◌+◌, if◌then◌else◌, Option, Some, None, Result, Ok, Err, List, [], ◌∷◌, ◌++◌, map, slice_get}
+use Rattle.std.specs.Prelude.{◌≡◌, ℕ, suc, Bool, true, false, ◌||◌, ◌+◌, if◌then◌else◌, Option, Some, None, Result, Ok, Err, List, [], ◌∷◌, ◌++◌, map, slice_get, ◌*◌, nat_le, length, filter}
 use Rattle.std.specs.List.{list_any, filter_map}
 use Rattle.std.specs.Ordering.{is_lt, is_gt}
 use Rattle.std.specs.declared.cmp.Ordering.{Ordering}
@@ -9,6 +9,7 @@ use Rattle.value_types.specs.declared.row_id.RowId.{Key}
 use Rattle.value_types.specs.Order.{same_key}
 use Rattle.dataset_types.specs.declared.row.Marked.{Marked}
 use Rattle.dataset_types.specs.declared.row.Row.{Row}
+use Rattle.cell_errors.specs.declared.fault.CellError.TheVariants.{TooLarge}
 use Rattle.cell_errors.specs.declared.fault.EvalFault.{EvalFault}
 use Rattle.cell_errors.specs.Answers.{Answer, Fails, and_then, collect}
 use Rattle.expr_lang.specs.declared.expr.Expr.{Expr}
@@ -212,6 +213,22 @@ group_rows_in job having items gs = and_then (collect (tested_in job having) gs)
 -- the rows of the groups of a job
 abbrev pub rows_in : Job → Option Expr → List Item → Answer Batch
 rows_in job having items = rows_of job.rel.now job.places.now having items job.picks.now job.cell
+
+-- rows of so many values each, where these are not too many in all
+abbrev pub within : ℕ → Batch → Answer Batch
+within width b = if nat_le (length b.rows * width) 65536 then Ok b else Err TooLarge
+
+-- the rows of these lots, where their values are not too many
+abbrev pub lots_within : Job → Option Expr → List Item → List Lot → Answer Batch
+lots_within job having items gs = and_then (group_rows_in job having items gs) (within (length items))
+
+-- the rows of the groups of a job, where their values are not too many
+abbrev pub rows_within : Job → Option Expr → List Item → Answer Batch
+rows_within job having items = and_then (rows_in job having items) (within (length items))
+
+-- how many groups HAVING keeps
+abbrev pub kept_count : List TestedLot → ℕ
+kept_count ts = length (filter (λ x. x.test.holds) ts)
 
 -- the types of a job's items
 abbrev pub columns_in : Job → List Item → Answer (List ScopeColumn)

@@ -7,23 +7,24 @@ ghost use Rattle.rel_ops.specs.Project.{item_names};
 ghost use Rattle.rel_group.specs.Group as spec;
 ghost use Rattle.rel_group.specs.Groups as groups;
 ghost use Rattle.rel_group.specs.Keys.{are_places};
-ghost use Rattle.rel_group.specs.Calls.{IsOf, HasColumnPlaces, columns_in, group_rows_in, grouped_in, rows_in};
+ghost use Rattle.rel_group.specs.Calls.{IsOf, HasColumnPlaces, columns_in, grouped_in, lots_within, rows_within};
 
 use crate::columns::key_columns;
 use crate::cutting::lots;
 use crate::having::all_tested;
-use crate::items::all_rows;
+use crate::items::{all_rows, check_rows, kept_count};
 use crate::job::Job;
 use crate::parts::Lots;
 use crate::uncertain::is_uncertain;
-use cell_errors::EvalFault;
+use cell_errors::{CellError, EvalFault};
 use dataset_types::Picks;
 use expr_lang::Expr;
 use expr_meaning::{Scope, TypedSetting};
-use rel_ops::item_columns;
+use rel_ops::{are_too_many, item_columns};
 use relations::{Batch, ColumnPlaces, ColumnRefs, Item, Items, Rel};
 use std::alloc::Global;
 
+/// The rows of the groups. Where their values would be too many, none of them is kept.
 fn group_rows(
     alloc: Global,
     having: Option<&Expr>,
@@ -33,10 +34,15 @@ fn group_rows(
 ) -> Result<Batch, EvalFault>
     requires places { HasColumnPlaces job }
     ensures { Gives result
-        (group_rows_in job.entry (option_copied having.entry) items.now lots) }
+        (lots_within job.entry (option_copied having.entry) items.now lots) }
 {
     let tested = all_tested(alloc, having, lots, &job)?;
-    all_rows(alloc, items, tested.as_slice(), &job)
+    let tested = tested.as_slice();
+    if are_too_many(kept_count(tested), items.len()) {
+        check_rows(alloc, items, tested, &job)?;
+        return Err(EvalFault::Error(CellError::TooLarge));
+    }
+    all_rows(alloc, items, tested, &job)
 }
 
 fn rows_of(
@@ -46,7 +52,7 @@ fn rows_of(
     job: Job,
 ) -> Result<Batch, EvalFault>
     requires job { IsOf job }
-    ensures { Gives result (rows_in job.entry (option_copied having.entry) items.now) }
+    ensures { Gives result (rows_within job.entry (option_copied having.entry) items.now) }
 {
     let lots = lots(alloc, job.places, job.rel.rows().as_slice())?;
     group_rows(alloc, having, items, job, lots)

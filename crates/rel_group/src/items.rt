@@ -3,6 +3,7 @@ ghost use Rattle.std.specs.Prelude.{◌≡◌, IfOk};
 ghost use Rattle.cell_errors.specs.Answers.{Gives};
 ghost use Rattle.relations.specs.Batches.{gathered};
 ghost use Rattle.relations.specs.Conditions.{kept};
+ghost use Rattle.rel_ops.specs.Project.{checked};
 ghost use Rattle.rel_group.specs.Calls as calls;
 ghost use Rattle.rel_group.specs.Calls.{HasColumnPlaces, bound_in, item_in, items_in, key_bindings, lot_row};
 
@@ -126,4 +127,28 @@ pub fn all_rows(
         all.add(alloc, made)?;
     }
     Ok(all)
+}
+
+/// The items of the groups that HAVING keeps, for their errors alone.
+#[tactic(auto, using(rel_ops::proofs::TooMany::looking))]
+pub fn check_rows(
+    alloc: Global,
+    items: &[Item],
+    lots: &[TestedLot],
+    job: &Job,
+) -> Result<(), EvalFault>
+    requires places { HasColumnPlaces job.now }
+    ensures { Gives result (checked (gathered (calls.row_in job.now items.now) lots.now)) }
+{
+    for lot in lots {
+        group_row(alloc, items, lot, job)?;
+    }
+    Ok(())
+}
+
+/// How many groups HAVING keeps.
+pub fn kept_count(lots: &[TestedLot]) -> usize
+    ensures { result ≡ calls.kept_count lots.now }
+{
+    lots.iter().filter(|lot| lot.test.holds).count()
 }

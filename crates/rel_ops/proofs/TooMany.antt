@@ -62,6 +62,10 @@ pub not_few : (b few : Bool) → b ≡ not few → b ≡ true → few ≡ false
 not_few b true e k = cc
 not_few b false e k = refl
 
+pub not_many : (b few : Bool) → b ≡ not few → b ≡ false → few ≡ true
+not_many b true e k = refl
+not_many b false e k = cc
+
 -- a relation of too many values
 pub too_large : (columns : List ScopeColumn) (rows : List Row) (is_open is_loose : Bool) → nat_le (length rows * length columns) 65536 ≡ false →
     whole (rel_of columns rows is_open is_loose) ≡ Err TooLarge
@@ -117,3 +121,6 @@ many_items rel items columns picks cell are many ok = on (gathered (item_row rel
 
 -- what the proof of the loop uses
 pub ruleset checking = (row_checked, rows_checked, none_under)
+
+-- what the proof of a loop over any step uses
+pub ruleset looking = (checked_on, checked_end)
