@@ -214,8 +214,28 @@ def a_join_that_repeats_a_long_text_takes_little_memory(command):
     return wrong if said in run.stdout else wrong + [f"it wrote {run.stdout[-200:]}"]
 
 
+def numbers(path):
+    with open(path, "w", encoding="ascii") as file:
+        file.write("a\n" + "".join(f"{number}\n" for number in range(60000)))
+
+
+def a_query_of_many_items_takes_little_memory(command):
+    """Its rows would have 60,000,000 values, once without groups and once in a group each, and the program has 1 GB of memory."""
+    items = ", ".join(f"a AS x{number}" for number in range(1000))
+    stream = (edit("append", "main", {"load": "t", "file": "f", "types": ["int"]})
+              + edit("append", "main", {"sql": f"SELECT {items} FROM t", "into": "q"})
+              + edit("update", "main", {"sql": f"SELECT {items} FROM t GROUP BY a", "into": "q"}, at=2))
+    run = at_a_load(command, ["serial"], numbers, stream, within_memory)
+    wrong = ended(run.returncode, run.stderr, 0, None)
+    for version in b"2", b"3":
+        if b"version %s main\ncell 1 #1 ok\ncell 2 #%s error TooLarge\n" % (version, version) not in run.stdout:
+            wrong.append(f"version {version} isn't there with its error")
+    return wrong
+
+
 CHECKS = (
     a_join_that_repeats_a_long_text_takes_little_memory,
+    a_query_of_many_items_takes_little_memory,
     a_folder_that_is_loaded_is_a_file_fault,
     a_file_of_one_byte_too_many_is_refused,
     a_file_at_the_limit_is_loaded,

@@ -1,5 +1,5 @@
 -- Groups whose values are too many, which are looked at for their errors alone.
-use Rattle.std.proofs.Common.{◌≡◌, ℕ, suc, ◌+◌, ◌*◌, length, filter, Bool, true, false, cond, ◌||◌, Option, Ok, Err, List, [], ◌∷◌, ◌++◌, ap, refl, subst, sym, ◌∙◌, arith}
+use Rattle.std.proofs.Common.{◌≡◌, ℕ, ◌+◌, ◌*◌, length, filter, Bool, true, false, cond, ◌||◌, Option, Ok, Err, List, [], ◌∷◌, ap, refl, subst, sym, ◌∙◌, arith}
 use Rattle.std.specs.Prelude.{if◌then◌else◌, nat_le}
 use Rattle.std.proofs.lemmas.List.{length-append}
 use Rattle.dataset_types.specs.declared.row.Marked.{Marked}
@@ -15,14 +15,14 @@ use Rattle.relations.specs.Batches.{nothing, both, gathered}
 use Rattle.relations.specs.Conditions.{kept_if, kept}
 use Rattle.relations.specs.Rels.{RelData, rel_of, whole}
 use Rattle.relations.proofs.Gathered.{fine, the_same, then_ok}
-use Rattle.rel_ops.specs.Project.{checked, item_column, item_columns}
-use Rattle.rel_ops.proofs.TooMany.{as_many, not_few, too_large}
+use Rattle.rel_ops.specs.Project.{checked, item_column}
+use Rattle.rel_ops.proofs.TooMany.{as_many, too_large}
 use Rattle.rel_group.specs.declared.job.Job.{Job}
 use Rattle.rel_group.specs.declared.parts.Lot.{Lot}
 use Rattle.rel_group.specs.declared.parts.TestedLot.{TestedLot}
 use Rattle.rel_group.specs.Groups.{group_types, may_lack_groups}
 use Rattle.rel_group.specs.Group.{group_values, row_of}
-use Rattle.rel_group.specs.Calls.{bound_in, columns_in, group_rows_in, grouped_in, kept_count, lots_within, row_in, rows_in, rows_within, setting_in, tested_in, within}
+use Rattle.rel_group.specs.Calls.{bound_in, columns_in, grouped_in, kept_count, lots_within, row_in, rows_in, rows_within, setting_in, tested_in, within}
 
 -- a group more
 count_more : (x : TestedLot) (xs : List TestedLot) → kept_count (x ∷ xs) ≡ length (kept_if x.test.holds x) + kept_count xs
