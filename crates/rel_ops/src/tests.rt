@@ -5,13 +5,14 @@ ghost use Rattle.std.specs.Prelude.{IfOk};
 ghost use Rattle.dataset_types.specs.Tables.{Distinct, row_ids};
 ghost use Rattle.rel_ops.specs.Project.{item_names};
 
-use crate::{filter, filter_table, limit, project, sort, types_agree, union_all};
+use crate::{filter, filter_table, item_columns, limit, project, sort, types_agree, union_all};
 use cell_errors::{CellError, EvalFault};
 use dataset_types::{
     Column, Columns, Marked, MarkedValues, Picks, Row, Rows, Table, all_sure, law_of_numbers,
     names_distinct, rows_fit,
 };
 use expr_lang::{BinaryOp, Expr};
+use expr_meaning::{Scope, TypedSetting};
 use relations::{Item, Items, Rel, SortKey, SortKeys};
 use sqlite_items::Boxed;
 use std::alloc::Global;
@@ -246,6 +247,31 @@ fn an_item_has_the_mark_of_what_it_looks_at(rt: HostRuntime) {
     let alloc = rt.alloc();
     assert!(rt; gives(alloc, &projected(&rt, alloc, 2), "#1 1.2500; #2 ~null; "));
     assert!(rt; gives(alloc, &projected(&rt, alloc, 0), "ZeroDivisor"));
+}
+
+fn typed(rt: &impl Abort, alloc: Global) -> Result<Scope, EvalFault> {
+    let rel = prices(rt, alloc)?;
+    let half = binary(alloc, BinaryOp::Divide, column("price")?, 2)?;
+    let items = one_item(alloc, half)?;
+    let types = TypedSetting {
+        columns: rel.columns(),
+        group: None,
+    };
+    item_columns(alloc, &types, items.as_slice())
+}
+
+#[test]
+fn an_output_column_has_the_type_of_its_item(rt: HostRuntime) {
+    let alloc = rt.alloc();
+    let columns = typed(&rt, alloc).expect(&rt, "memory");
+    assert_eq!(rt; columns.len(), 1);
+    let fixed = ColumnType::Fixed;
+    assert!(rt;
+        columns
+            .as_slice()
+            .iter()
+            .all(|one| one.column.kind == fixed)
+    );
 }
 
 fn twice(rt: &impl Abort, alloc: Global) -> Result<Rel, EvalFault> {
