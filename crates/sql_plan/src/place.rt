@@ -1,5 +1,5 @@
 //! The places of columns, counted from 1.
-ghost use Rattle.std.specs.Prelude.{◌≡◌, ◌+◌, IfOk};
+ghost use Rattle.std.specs.Prelude.{◌≡◌, ◌+◌, ◌^◌, IfOk, is_ok, nat_lt};
 ghost use Rattle.cell_errors.specs.Answers.{Gives};
 ghost use Rattle.sql_plan.specs.Places as spec;
 
@@ -9,7 +9,8 @@ use value_types::{Name, NoMemory};
 
 /// A place that is counted from 0, counted from 1. Those beyond 4,294,967,295 are none here, as if there were no memory.
 fn from_one(place: usize) -> Result<u32, NoMemory>
-    ensures { IfOk result (λ counted. counted ≡ place + 1) }
+    ensures value { IfOk result (λ counted. counted ≡ place + 1) }
+    ensures fits { is_ok result ≡ nat_lt (place + 1) (2 ^ 32) }
 {
     let place = u32::try_from(place).map_err(|_| NoMemory)?;
     place.checked_add(1).ok_or(NoMemory)
