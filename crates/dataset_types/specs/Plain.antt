@@ -1,12 +1,12 @@
 -- Plain tables and environments: without marks, doubt and flags.
-use Rattle.std.specs.Prelude.{ℕ, ◌+◌, ◌*◌, ◌&&◌, List, length, map, Bool, nat_le, Option, option_map}
+use Rattle.std.specs.Prelude.{ℕ, ◌+◌, ◌&&◌, List, length, map, Bool, nat_le, Option, option_map}
 use Rattle.std.specs.List.{list_all, sum_by}
 use Rattle.value_types.specs.Text.{id, parts}
 use Rattle.value_types.specs.declared.value.Value.{Value}
 use Rattle.value_types.specs.declared.row_id.RowId.{RowId}
 use Rattle.dataset_types.specs.declared.column.Column.{Column}
 use Rattle.dataset_types.specs.declared.row.Row.{Row}
-use Rattle.dataset_types.specs.Tables.{TableData, text_size}
+use Rattle.dataset_types.specs.Tables.{TableData, text_size, few_columns, few_rows, few_values, few_bytes}
 use Rattle.dataset_types.specs.Envs.{EnvData, look}
 
 -- a row without marks
@@ -39,11 +39,15 @@ erased_env env name = option_map erased (look env name).table
 abbrev pub plain_size : PlainRow → ℕ
 plain_size row = length (id row.id) + sum_by text_size row.values
 
--- the limits of a dataset: at most 32 columns, 65,536 rows, 65,536 values, 1,048,576 bytes of text, and 8 parts in each row's id
+-- each row's id has at most 8 parts
+abbrev pub plain_short : List PlainRow → Bool
+plain_short rows = list_all (λ r. nat_le (parts r.id) 8) rows
+
+-- the limits of a dataset
 abbrev pub plain_within : PlainTable → Bool
 plain_within t =
-    nat_le (length t.columns) 32
-    && nat_le (length t.rows) 65536
-    && nat_le (length t.rows * length t.columns) 65536
-    && nat_le (sum_by plain_size t.rows) 1048576
-    && list_all (λ r. nat_le (parts r.id) 8) t.rows
+    few_columns (length t.columns)
+    && few_rows (length t.rows)
+    && few_values (length t.rows) (length t.columns)
+    && few_bytes (sum_by plain_size t.rows)
+    && plain_short t.rows

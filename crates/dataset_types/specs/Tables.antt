@@ -86,13 +86,29 @@ all_sure rows = list_all (λ r. r.sure) rows
 abbrev pub ids_short : List Row → Bool
 ids_short rows = list_all (λ r. nat_le (parts r.id) 8) rows
 
--- at most 32 columns, 65,536 rows, 65,536 values, 1,048,576 bytes of text, and 8 parts in each row's id
+-- at most 32 columns
+abbrev pub few_columns : ℕ → Bool
+few_columns columns = nat_le columns 32
+
+-- at most 65,536 rows
+abbrev pub few_rows : ℕ → Bool
+few_rows rows = nat_le rows 65536
+
+-- at most 65,536 values in so many rows of one width
+abbrev pub few_values : ℕ → ℕ → Bool
+few_values rows width = nat_le (rows * width) 65536
+
+-- at most 1,048,576 bytes of text
+abbrev pub few_bytes : ℕ → Bool
+few_bytes bytes = nat_le bytes 1048576
+
+-- the limits of a dataset
 abbrev pub within_limits : TableData → Bool
 within_limits t =
-    nat_le (length t.columns) 32
-    && nat_le (length t.rows) 65536
-    && nat_le (length t.rows * length t.columns) 65536
-    && nat_le (text_bytes t.rows) 1048576
+    few_columns (length t.columns)
+    && few_rows (length t.rows)
+    && few_values (length t.rows) (length t.columns)
+    && few_bytes (text_bytes t.rows)
     && ids_short t.rows
 
 -- the rules and limits that a table keeps

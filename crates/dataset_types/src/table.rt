@@ -1,14 +1,14 @@
 //! Tables, whose type keeps the rules and the limits of a dataset.
-ghost use Rattle.std.specs.Prelude.{◌≡◌, ◌↔◌, ◌-◌, ◌^◌, min, true, false, Err, IsTrue, IsOk, IfOk};
+ghost use Rattle.std.specs.Prelude.{◌≡◌, ◌↔◌, true, false, Err, IsTrue, IsOk, IfOk};
 ghost use Rattle.dataset_types.specs.Tables.{Distinct, column_names, row_ids, rows_fit, all_sure};
-ghost use Rattle.dataset_types.specs.Tables.{text_size, row_size, text_bytes, ids_short};
 ghost use Rattle.dataset_types.specs.Tables.{IsTable, table_of, within_limits};
 
 use crate::column::Columns;
-use crate::row::{Row, Rows};
+use crate::limits::{few_bytes, few_columns, few_rows, few_values, ids_short, text_bytes};
+use crate::row::Rows;
 use std::alloc::Global;
 use std::marker::Model;
-use value_types::{NoMemory, Value, id_parts, id_weight};
+use value_types::NoMemory;
 
 /// A dataset: columns, rows, and whether rows may be missing or their order is uncertain.
 #[derive(Drop)]
@@ -62,10 +62,10 @@ impl Table {
         ensures too_large { (result ≡ Err TableFault.TooLarge)
             ↔ (within_limits (table_of columns rows is_open is_loose) ≡ false) }
     {
-        let within = columns.len() <= 32
-            && rows.len() <= 65_536
-            && rows.len() * columns.len() <= 65_536
-            && text_bytes(rows.as_slice()) <= 1_048_576
+        let within = few_columns(columns.len())
+            && few_rows(rows.len())
+            && few_values(rows.len(), columns.len())
+            && few_bytes(text_bytes(rows.as_slice()))
             && ids_short(rows.as_slice());
         if !within {
             return Err(TableFault::TooLarge);
@@ -124,42 +124,6 @@ impl Table {
             is_loose: self.is_loose,
         })
     }
-}
-
-fn text_size(value: &Value) -> u64
-    ensures { result ≡ text_size value.now }
-{
-    match value {
-        Value::Text(text) => text.len() as u64,
-        _ => 0,
-    }
-}
-
-// The bytes of text in a row, or the last value of u64 where there are more.
-fn row_size(row: &Row) -> u64
-    ensures { result ≡ min (row_size row.now) (2 ^ 64 - 1) }
-{
-    let mut size = id_weight(&row.id);
-    for marked in row.values.as_slice() {
-        size = size.saturating_add(text_size(&marked.value));
-    }
-    size
-}
-
-fn text_bytes(rows: &[Row]) -> u64
-    ensures { result ≡ min (text_bytes rows.now) (2 ^ 64 - 1) }
-{
-    let mut size: u64 = 0;
-    for row in rows {
-        size = size.saturating_add(row_size(row));
-    }
-    size
-}
-
-fn ids_short(rows: &[Row]) -> bool
-    ensures { result ≡ ids_short rows.now }
-{
-    rows.iter().all(|row| id_parts(&row.id) <= 8)
 }
 
 impl PartialEq for Table {
