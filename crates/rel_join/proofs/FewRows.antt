@@ -1,6 +1,6 @@
 -- Rows that are kept while they are few, and what comes of all.
-use Rattle.std.proofs.Common.{◌≡◌, ℕ, ◌+◌, ◌*◌, ◌<◌, ◌≤◌, length, drop, get_or, Bool, true, false, ◌||◌, ◌&&◌, Ok, Err, Option, None, Some, List, [], ◌∷◌, ◌++◌, arith, refl, ap, sym, ◌∙◌, append_assoc, append-nil}
-use Rattle.std.specs.Prelude.{if◌then◌else◌, nat_le, IsTrue, IfSome}
+use Rattle.std.proofs.Common.{◌≡◌, ℕ, ◌+◌, ◌<◌, ◌≤◌, length, drop, get_or, Bool, true, false, ◌||◌, ◌&&◌, Ok, Err, Option, None, Some, List, [], ◌∷◌, ◌++◌, arith, refl, ap, sym, ◌∙◌, append_assoc, append-nil}
+use Rattle.std.specs.Prelude.{if◌then◌else◌, IsTrue, IfSome}
 use Rattle.std.proofs.lemmas.List.{length-append, drop_more, drop_all}
 use Rattle.std.proofs.lemmas.List.Sums.{sum_by-append}
 use Rattle.std.proofs.lemmas.Bool.Decides.{nat_tests}
@@ -11,7 +11,7 @@ use Rattle.cell_errors.specs.declared.fault.CellError.TheVariants.{TooLarge}
 use Rattle.cell_errors.specs.declared.fault.EvalFault.{EvalFault}
 use Rattle.cell_errors.specs.declared.fault.EvalFault.TheVariants as fault
 use Rattle.dataset_types.specs.declared.row.Row.{Row}
-use Rattle.dataset_types.specs.Tables.{row_size, text_bytes, ids_short}
+use Rattle.dataset_types.specs.Tables.{row_size, text_bytes, ids_short, few_rows, few_values, few_bytes}
 use Rattle.relations.specs.declared.batch.Batch.{Batch}
 use Rattle.relations.specs.Rels.{RelData, rel_of, whole}
 use Rattle.relations.specs.Batches.{nothing, both, gathered}
@@ -32,14 +32,14 @@ pub many_more : (xs ys : List Row) → are_few xs ≡ false → are_few (xs ++ y
 many_more xs ys e =
     let rows = length-append xs ys in
     let bytes = sum_by-append row_size xs ys in
-    either_false (nat_le (length xs) 65536) (nat_le (text_bytes xs) 1048576) (nat_le (length (xs ++ ys)) 65536) (nat_le (text_bytes (xs ++ ys)) 1048576)
+    either_false (few_rows (length xs)) (few_bytes (text_bytes xs)) (few_rows (length (xs ++ ys))) (few_bytes (text_bytes (xs ++ ys)))
     (λ h. grind (arith, nat_tests)) (λ h. grind (arith, nat_tests)) e
 
 pub many_before : (xs ys : List Row) → are_few ys ≡ false → are_few (xs ++ ys) ≡ false
 many_before xs ys e =
     let rows = length-append xs ys in
     let bytes = sum_by-append row_size xs ys in
-    either_false (nat_le (length ys) 65536) (nat_le (text_bytes ys) 1048576) (nat_le (length (xs ++ ys)) 65536) (nat_le (text_bytes (xs ++ ys)) 1048576)
+    either_false (few_rows (length ys)) (few_bytes (text_bytes ys)) (few_rows (length (xs ++ ys))) (few_bytes (text_bytes (xs ++ ys)))
     (λ h. grind (arith, nat_tests)) (λ h. grind (arith, nat_tests)) e
 
 pub none_few : (m : Batch) → are_few m.rows ≡ false → if_few m ≡ None
@@ -151,7 +151,7 @@ few_is (Err d) m e = cc
 
 -- rows that aren't few are a relation that is too large
 too_large : (r : RelData) → are_few r.rows ≡ false → whole r ≡ Err TooLarge
-too_large r e = at (nat_le (length r.rows) 65536) (nat_le (length r.rows * length r.columns) 65536) (nat_le (text_bytes r.rows) 1048576) e
+too_large r e = at (few_rows (length r.rows)) (few_values (length r.rows) (length r.columns)) (few_bytes (text_bytes r.rows)) e
   where
     at : (rows values bytes : Bool) → (rows && bytes) ≡ false → (if rows && values && bytes && ids_short r.rows then fine r else Err TooLarge) ≡ Err TooLarge
     at false values bytes k = refl

@@ -1,15 +1,15 @@
 -- Rows that are kept while they are few.
-use Rattle.std.specs.Prelude.{◌≡◌, ℕ, Bool, ◌&&◌, if◌then◌else◌, nat_le, length, IsTrue, Option, None, Some, Ok, List}
+use Rattle.std.specs.Prelude.{◌≡◌, ℕ, Bool, ◌&&◌, if◌then◌else◌, length, IsTrue, Option, None, Some, Ok, List}
 use Rattle.std.specs.Bool.{⊤}
 use Rattle.cell_errors.specs.Answers.{Answer, and_then}
 use Rattle.dataset_types.specs.declared.row.Row.{Row}
-use Rattle.dataset_types.specs.Tables.{text_bytes}
+use Rattle.dataset_types.specs.Tables.{text_bytes, few_rows, few_bytes}
 use Rattle.relations.specs.declared.batch.Batch.{Batch}
 use Rattle.relations.specs.Batches.{both}
 
--- at most 65,536 rows and 1,048,576 bytes of text, which no result passes
+-- no more rows and bytes of text than any result may have
 abbrev pub are_few : List Row → Bool
-are_few rows = nat_le (length rows) 65536 && nat_le (text_bytes rows) 1048576
+are_few rows = few_rows (length rows) && few_bytes (text_bytes rows)
 
 -- the batch where its rows are few, else nothing: what comes after too much is too much
 abbrev pub if_few : Batch → Option Batch

@@ -45,7 +45,7 @@ job_row job l = left_row job.kind job.left.now.columns job.right.now job.on.now 
 abbrev pub job_joined : Job → Answer RelData
 job_joined job = joined job.kind job.left.now job.right.now job.on.now job.picks.now job.cell
 
--- what the join makes of all left rows, where these are few
+-- what the join makes of all left rows, where the rows that it makes are few
 abbrev pub job_rows : Job → Answer (Option Batch)
 job_rows job = few_of (gathered (job_row job) job.left.now.rows)
 

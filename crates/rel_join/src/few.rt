@@ -2,22 +2,23 @@
 //!
 //! A join may make far more than any result may have. Where its rows become too many, or their text too long, all are
 //! given up and no more are kept, for what comes after too much is too much.
-ghost use Rattle.std.specs.Prelude.{◌≡◌, ◌-◌, ◌^◌, ◌&&◌, min, nat_le, true, Ok, OnOk, IfSome, IsTrue, Some, []};
+ghost use Rattle.std.specs.Prelude.{◌≡◌, ◌-◌, ◌^◌, ◌&&◌, min, true, Ok, OnOk, IfSome, IsTrue, Some, []};
+ghost use Rattle.dataset_types.specs.Tables.{few_rows, few_bytes};
 ghost use Rattle.relations.specs.Batches.{nothing};
 ghost use Rattle.relations.specs.Conditions.{kept};
 ghost use Rattle.rel_join.specs.Few.{are_few, both_few};
 
-use dataset_types::Row;
-use relations::{Batch, Test, row_size};
+use dataset_types::{Row, few_bytes, few_rows, row_size};
+use relations::{Batch, Test};
 use std::alloc::Global;
 use std::marker::Model;
 use value_types::NoMemory;
 
-// Whether so many rows, and bytes of text, are within the limits of a relation.
-fn are_within(rows: usize, bytes: u64) -> bool
-    ensures { result ≡ nat_le rows 65536 && nat_le bytes 1048576 }
+/// Whether so many rows with so many bytes of text are few.
+fn are_few(rows: usize, bytes: u64) -> bool
+    ensures { result ≡ few_rows rows && few_bytes bytes }
 {
-    rows <= 65_536 && bytes <= 1_048_576
+    few_rows(rows) && few_bytes(bytes)
 }
 
 /// A batch while its rows are few, and nothing from there on.
@@ -85,14 +86,14 @@ impl Few {
         }
     }
 
-    /// A row whose test holds, put after its own.
+    /// A row whose test holds, put after its own. `marked` is whether the test is marked.
     pub fn push(&mut self, alloc: Global, row: Row, marked: bool) -> Result<(), NoMemory>
         ensures { OnOk result (self.new
             ≡ both_few self.old (Some (kept row (record { holds = true; marked = marked })))) }
     {
         let bytes = self.bytes.saturating_add(row_size(&row));
         if let Some(mut batch) = self.kept.take() {
-            if are_within(batch.rows.len() + 1, bytes) {
+            if are_few(batch.rows.len() + 1, bytes) {
                 let holds = true;
                 batch.keep(alloc, row, Test { holds, marked })?;
                 *self = Few {
@@ -111,7 +112,7 @@ impl Few {
         let bytes = self.bytes.saturating_add(more.bytes);
         let all = self.kept.take();
         if let (Some(mut batch), Some(others)) = (all, more.kept) {
-            if are_within(batch.rows.len() + others.rows.len(), bytes) {
+            if are_few(batch.rows.len() + others.rows.len(), bytes) {
                 batch.add(alloc, others)?;
                 *self = Few {
                     kept: Some(batch),

@@ -44,7 +44,8 @@ fn stand_alone(
     })
 }
 
-/// The pairs that were found of a left row, and for LEFT JOIN the row itself where there are none.
+/// The pairs that were found of a left row, and for LEFT JOIN the row itself where there are none. `width` is the number of
+/// columns on the right side.
 pub fn finish(
     alloc: Global,
     kind: Kind,
@@ -65,6 +66,7 @@ pub fn finish(
             _ => None,
         };
         if let Some(row) = lone {
+            // It stands for no pair, so no ON marks it.
             found.push(alloc, row, false)?;
         }
     }

@@ -1,10 +1,10 @@
 -- Relations without marks and flags.
-use Rattle.std.specs.Prelude.{◌*◌, ◌&&◌, if◌then◌else◌, nat_le, Bool, Ok, Err, List, [], ◌∷◌, ◌++◌, length, map}
-use Rattle.std.specs.List.{list_all, sum_by}
-use Rattle.value_types.specs.Text.{parts}
+use Rattle.std.specs.Prelude.{◌&&◌, if◌then◌else◌, Bool, Ok, Err, List, [], ◌∷◌, ◌++◌, length, map}
+use Rattle.std.specs.List.{sum_by}
 use Rattle.cell_errors.specs.Answers.{Answer, and_then}
 use Rattle.cell_errors.specs.declared.fault.CellError.TheVariants as error
-use Rattle.dataset_types.specs.Plain.{PlainRow, erased_row, plain_size}
+use Rattle.dataset_types.specs.Plain.{PlainRow, erased_row, plain_size, plain_short}
+use Rattle.dataset_types.specs.Tables.{few_rows, few_values, few_bytes}
 use Rattle.expr_meaning.specs.declared.bindings.ScopeColumn.{ScopeColumn}
 use Rattle.relations.specs.declared.batch.Batch.{Batch}
 use Rattle.relations.specs.Rels.{RelData}
@@ -30,10 +30,10 @@ listed f (x ∷ xs) = and_then (f x) (λ rs. and_then (listed f xs) (λ more. Ok
 -- the limits of a relation
 abbrev pub plain_within : PlainRel → Bool
 plain_within r =
-    nat_le (length r.rows) 65536
-    && nat_le (length r.rows * length r.columns) 65536
-    && nat_le (sum_by plain_size r.rows) 1048576
-    && list_all (λ row. nat_le (parts row.id) 8) r.rows
+    few_rows (length r.rows)
+    && few_values (length r.rows) (length r.columns)
+    && few_bytes (sum_by plain_size r.rows)
+    && plain_short r.rows
 
 -- the whole result of a step, where it is within the limits
 abbrev pub plain_whole : PlainRel → Answer PlainRel

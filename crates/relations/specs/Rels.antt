@@ -1,10 +1,10 @@
 -- Relations: their parts, their rules and their limits.
-use Rattle.std.specs.Prelude.{◌≡◌, ◌*◌, ◌&&◌, if◌then◌else◌, length, map, List, Bool, false, nat_le, IsTrue, Option, Ok, Err}
+use Rattle.std.specs.Prelude.{◌≡◌, ◌&&◌, if◌then◌else◌, length, map, List, Bool, false, IsTrue, Option, Ok, Err}
 use Rattle.cell_errors.specs.Answers.{Answer}
 use Rattle.cell_errors.specs.declared.fault.CellError.TheVariants as error
 use Rattle.dataset_types.specs.declared.column.Column.{Column}
 use Rattle.dataset_types.specs.declared.row.Row.{Row}
-use Rattle.dataset_types.specs.Tables.{TableData, table_of, within_limits as table_limits, Distinct, row_ids, rows_fit, all_sure, text_bytes, ids_short}
+use Rattle.dataset_types.specs.Tables.{TableData, table_of, within_limits as table_limits, Distinct, row_ids, rows_fit, all_sure, text_bytes, ids_short, few_rows, few_values, few_bytes}
 use Rattle.expr_meaning.specs.declared.bindings.ScopeColumn.{ScopeColumn}
 use Rattle.expr_meaning.specs.Names.{Name}
 
@@ -38,12 +38,12 @@ pub record KeepsRules (r : RelData) : Type 0 where
   pub fitting : IsTrue (rows_fit (bare_columns r.columns) r.rows)
   pub sure : r.is_open ≡ false → IsTrue (all_sure r.rows)
 
--- a dataset's limits, but for that of columns: 65,536 rows, 65,536 values, 1,048,576 bytes of text, and 8 parts in each row's id
+-- a dataset's limits, but for that of columns
 abbrev pub within_limits : RelData → Bool
 within_limits r =
-    nat_le (length r.rows) 65536
-    && nat_le (length r.rows * length r.columns) 65536
-    && nat_le (text_bytes r.rows) 1048576
+    few_rows (length r.rows)
+    && few_values (length r.rows) (length r.columns)
+    && few_bytes (text_bytes r.rows)
     && ids_short r.rows
 
 -- the rules and limits that every relation keeps

@@ -23,7 +23,6 @@ pub use bound_row::{bind, bind_again, bind_more};
 pub use condition::{Test, test_row};
 pub use from_table::qualified_columns;
 pub use laws::law_of_types;
-pub use limits::row_size;
 pub use parts::{ColumnRefs, Item, Items, RelParts, SortKey, SortKeys};
 pub use places::ColumnPlaces;
 pub use rel::Rel;
