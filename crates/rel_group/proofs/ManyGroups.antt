@@ -1,8 +1,9 @@
 -- Groups whose values are too many, which are looked at for their errors alone.
-use Rattle.std.proofs.Common.{◌≡◌, ℕ, ◌+◌, ◌*◌, length, filter, Bool, true, false, cond, ◌||◌, Option, Ok, Err, List, [], ◌∷◌, ap, refl, subst, sym, ◌∙◌, arith}
-use Rattle.std.specs.Prelude.{if◌then◌else◌, nat_le}
+use Rattle.std.proofs.Common.{◌≡◌, ℕ, ◌+◌, length, filter, Bool, true, false, cond, ◌||◌, Option, Ok, Err, List, [], ◌∷◌, ap, refl, subst, sym, ◌∙◌, arith}
+use Rattle.std.specs.Prelude.{if◌then◌else◌}
 use Rattle.std.proofs.lemmas.List.{length-append}
 use Rattle.dataset_types.specs.declared.row.Marked.{Marked}
+use Rattle.dataset_types.specs.Tables.{few_values}
 use Rattle.cell_errors.specs.Answers.{Answer, and_then, collect, Fails}
 use Rattle.cell_errors.specs.declared.fault.CellError.TheVariants.{TooLarge}
 use Rattle.cell_errors.specs.declared.fault.EvalFault.{EvalFault}
@@ -15,14 +16,14 @@ use Rattle.relations.specs.Batches.{nothing, both, gathered}
 use Rattle.relations.specs.Conditions.{kept_if, kept}
 use Rattle.relations.specs.Rels.{RelData, rel_of, whole}
 use Rattle.relations.proofs.Gathered.{fine, the_same, then_ok}
-use Rattle.rel_ops.specs.Project.{checked, item_column}
+use Rattle.rel_ops.specs.Project.{no_error, item_column}
 use Rattle.rel_ops.proofs.TooMany.{as_many, too_large}
 use Rattle.rel_group.specs.declared.job.Job.{Job}
 use Rattle.rel_group.specs.declared.parts.Lot.{Lot}
 use Rattle.rel_group.specs.declared.parts.TestedLot.{TestedLot}
 use Rattle.rel_group.specs.Groups.{group_types, may_lack_groups}
 use Rattle.rel_group.specs.Group.{group_values, row_of}
-use Rattle.rel_group.specs.Calls.{bound_in, columns_in, grouped_in, kept_count, lots_within, row_in, rows_in, rows_within, setting_in, tested_in, within}
+use Rattle.rel_group.specs.Calls.{bound_in, columns_in, grouped_in, kept_count, lots_within, row_in, rows_in, rows_within, setting_in, tested_in, if_few_values}
 
 -- a group more
 count_more : (x : TestedLot) (xs : List TestedLot) → kept_count (x ∷ xs) ≡ length (kept_if x.test.holds x) + kept_count xs
@@ -62,30 +63,30 @@ module _ (job : Job) (items : List Item) where
       ∙ (ap (λ n. length (kept_if x.test.holds x) + n) (kept_rows xs q.0 q.1) ∙ sym (count_more x xs))))
 
   module _ (having : Option Expr) (gs : List Lot) (ts : List TestedLot) (are : collect (tested_in job having) gs ≡ Ok ts) where
-    is_of_tests : lots_within job having items gs ≡ and_then (gathered (row_in job items) ts) (within (length items))
-    is_of_tests = ap (λ a. and_then (and_then a (λ xs. gathered (row_in job items) xs)) (within (length items))) are
+    is_of_tests : lots_within job having items gs ≡ and_then (gathered (row_in job items) ts) (if_few_values (length items))
+    is_of_tests = ap (λ a. and_then (and_then a (λ xs. gathered (row_in job items) xs)) (if_few_values (length items))) are
 
     -- too many values of groups without an error
-    pub many_kept : nat_le (kept_count ts * length items) 65536 ≡ false → checked (gathered (row_in job items) ts) ≡ Ok tt →
+    pub many_kept : few_values (kept_count ts) (length items) ≡ false → no_error (gathered (row_in job items) ts) ≡ Ok tt →
         lots_within job having items gs ≡ Err TooLarge
     many_kept many ok = is_of_tests ∙ on (gathered (row_in job items) ts) refl ok
       where
-        on : (a : Answer Batch) → gathered (row_in job items) ts ≡ a → checked a ≡ Ok tt → and_then a (within (length items)) ≡ Err TooLarge
-        on (Ok b) is e = rw (ap (λ n. nat_le (n * length items) 65536) (kept_rows ts b is) ∙ many) refl
+        on : (a : Answer Batch) → gathered (row_in job items) ts ≡ a → no_error a ≡ Ok tt → and_then a (if_few_values (length items)) ≡ Err TooLarge
+        on (Ok b) is e = rw (ap (λ n. few_values n (length items)) (kept_rows ts b is) ∙ many) refl
         on (Err d) is e = cc
 
     -- values that are not too many are all there
-    pub few_kept : nat_le (kept_count ts * length items) 65536 ≡ true → lots_within job having items gs ≡ gathered (row_in job items) ts
+    pub few_kept : few_values (kept_count ts) (length items) ≡ true → lots_within job having items gs ≡ gathered (row_in job items) ts
     few_kept few = is_of_tests ∙ on (gathered (row_in job items) ts) refl
       where
-        on : (a : Answer Batch) → gathered (row_in job items) ts ≡ a → and_then a (within (length items)) ≡ a
-        on (Ok b) is = rw (ap (λ n. nat_le (n * length items) 65536) (kept_rows ts b is) ∙ few) refl
+        on : (a : Answer Batch) → gathered (row_in job items) ts ≡ a → and_then a (if_few_values (length items)) ≡ a
+        on (Ok b) is = rw (ap (λ n. few_values n (length items)) (kept_rows ts b is) ∙ few) refl
         on (Err d) is = refl
 
 -- ---- the whole
 
-within_is : (n : ℕ) (a : Answer Batch) (m : Batch) → and_then a (within n) ≡ Ok m → a ≡ Ok m
-within_is n (Ok b) m e = at (nat_le (length b.rows * n) 65536) e
+within_is : (n : ℕ) (a : Answer Batch) (m : Batch) → and_then a (if_few_values n) ≡ Ok m → a ≡ Ok m
+within_is n (Ok b) m e = at (few_values (length b.rows) n) e
   where
     at : (few : Bool) → (if few then Ok b else Err TooLarge) ≡ Ok m → fine b ≡ Ok m
     at true k = k
@@ -104,15 +105,15 @@ module _ (job : Job) (having : Option Expr) (items : List Item) (columns : List 
   within_first : grouped_in job columns having items ≡ and_then (rows_within job having items) under
   within_first = on (rows_in job having items)
     where
-      on : (a : Answer Batch) → and_then a under ≡ and_then (and_then a (within (length items))) under
+      on : (a : Answer Batch) → and_then a under ≡ and_then (and_then a (if_few_values (length items))) under
       on (Err d) = refl
-      on (Ok b) = at (nat_le (length b.rows * length items) 65536) refl
+      on (Ok b) = at (few_values (length b.rows) (length items)) refl
         where
-          at : (few : Bool) → nat_le (length b.rows * length items) 65536 ≡ few → under b ≡ and_then (if few then Ok b else Err TooLarge) under
+          at : (few : Bool) → few_values (length b.rows) (length items) ≡ few → under b ≡ and_then (if few then Ok b else Err TooLarge) under
           at true is = refl
           at false is =
               let width = as_many (item_column (group_types job.rel.now.columns job.places.now)) items columns are in
-              too_large columns b.rows (may_lack_groups job.places.now job.rel.now || b.marked) false (ap (λ n. nat_le (length b.rows * n) 65536) width ∙ is)
+              too_large columns b.rows (may_lack_groups job.places.now job.rel.now || b.marked) false (ap (λ n. few_values (length b.rows) n) width ∙ is)
 
   pub whole_stops : (f : EvalFault) → Fails f (rows_within job having items) → Fails f (grouped_in job columns having items)
   whole_stops (fault.Error e) h = within_first ∙ ap (λ a. and_then a under) h

@@ -33,11 +33,15 @@ use Rattle.rel_group.specs.declared.parts.Lot.{Lot}
 use Rattle.rel_group.specs.declared.job.Job.{Job}
 use Rattle.rel_group.specs.declared.reading.Operands.{Operands}
 use Rattle.rel_group.specs.Groups.{bound_rows}
-use Rattle.rel_group.specs.Calls.{bound_in, expr_in, more_operands, operands_at, operands_of, over_in, read_at, rows_by, setting_in, value_of, with_operand}
+use Rattle.rel_group.specs.Calls.{bound_in, expr_in, operands_at, operands_of, over_in, read_at, rows_by, setting_in, value_in, with_operand}
 use Rattle.rel_group.proofs.GroupFits.{Good, good_parts, each_more}
 use Rattle.rel_group.proofs.Lots.{next_rows}
 
 -- ---- the loop over the operands
+
+-- operands, and others after them
+abbrev more_operands : Operands → Operands → Operands
+more_operands a b = record { values = a.values ++ b.values; marked = a.marked || b.marked }
 
 -- operands, and after them those at a place of these rows
 unfoldable pub read_on : ℕ → Operands → List Row → Operands
@@ -57,23 +61,23 @@ module _ (place : ℕ) where
   one_more all r rows m v = ap (λ o. more_operands all (operands_of (cons_option o (read_at place rows)))) v ∙ one_before all m (read_at place rows)
 
   module _ (rows : List Row) where
-    next_read : (all : Operands) (ps : List ℕ) (i p : ℕ) (v : Option Marked) → i < length ps → p ≡ get_or ps i p → value_of place (slice_get rows p) ≡ v →
+    next_read : (all : Operands) (ps : List ℕ) (i p : ℕ) (v : Option Marked) → i < length ps → p ≡ get_or ps i p → value_in place (slice_get rows p) ≡ v →
         more_operands all (operands_at place (rows_by rows (drop i ps)))
         ≡ more_operands all (operands_of (cons_option v (read_at place (rows_by rows (drop (i + 1) ps)))))
     next_read all ps i p v h e is =
         ap (λ z. more_operands all (operands_at place z)) (next_rows rows ps i p h e) ∙ ap (λ ms. more_operands all (operands_of ms)) (on (slice_get rows p) is)
       where
-        on : (o : Option Row) → value_of place o ≡ v →
+        on : (o : Option Row) → value_in place o ≡ v →
             read_at place (cons_option o (rows_by rows (drop (i + 1) ps))) ≡ cons_option v (read_at place (rows_by rows (drop (i + 1) ps)))
         on None k = ap (λ w. cons_option w (read_at place (rows_by rows (drop (i + 1) ps)))) k
         on (Some r) k = ap (λ w. cons_option w (read_at place (rows_by rows (drop (i + 1) ps)))) k
 
-    pub operand_here : (all : Operands) (ps : List ℕ) (i p : ℕ) (m : Marked) → i < length ps → p ≡ get_or ps i p → value_of place (slice_get rows p) ≡ Some m →
+    pub operand_here : (all : Operands) (ps : List ℕ) (i p : ℕ) (m : Marked) → i < length ps → p ≡ get_or ps i p → value_in place (slice_get rows p) ≡ Some m →
         read_on place all (rows_by rows (drop i ps)) ≡ read_on place (with_operand all m) (rows_by rows (drop (i + 1) ps))
     unfolding read_on
     operand_here all ps i p m h e k = next_read all ps i p (Some m) h e k ∙ one_before all m (read_at place (rows_by rows (drop (i + 1) ps)))
 
-    pub no_operand_here : (all : Operands) (ps : List ℕ) (i p : ℕ) → i < length ps → p ≡ get_or ps i p → value_of place (slice_get rows p) ≡ None →
+    pub no_operand_here : (all : Operands) (ps : List ℕ) (i p : ℕ) → i < length ps → p ≡ get_or ps i p → value_in place (slice_get rows p) ≡ None →
         read_on place all (rows_by rows (drop i ps)) ≡ read_on place all (rows_by rows (drop (i + 1) ps))
     unfolding read_on
     no_operand_here all ps i p h e k = next_read all ps i p None h e k

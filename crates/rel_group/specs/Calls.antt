@@ -1,5 +1,5 @@
 -- What the functions promise each other: rows with their keys, and how they are put into lots, which stand for groups.
-use Rattle.std.specs.Prelude.{◌≡◌, ℕ, suc, Bool, true, false, ◌||◌, ◌+◌, if◌then◌else◌, Option, Some, None, Result, Ok, Err, List, [], ◌∷◌, ◌++◌, map, slice_get, ◌*◌, nat_le, length, filter}
+use Rattle.std.specs.Prelude.{◌≡◌, ℕ, suc, Bool, true, false, ◌||◌, ◌+◌, if◌then◌else◌, Option, Some, None, Result, Ok, Err, List, [], ◌∷◌, ◌++◌, map, slice_get, length, filter}
 use Rattle.std.specs.List.{list_any, filter_map}
 use Rattle.std.specs.Ordering.{is_lt, is_gt}
 use Rattle.std.specs.declared.cmp.Ordering.{Ordering}
@@ -9,6 +9,7 @@ use Rattle.value_types.specs.declared.row_id.RowId.{Key}
 use Rattle.value_types.specs.Order.{same_key}
 use Rattle.dataset_types.specs.declared.row.Marked.{Marked}
 use Rattle.dataset_types.specs.declared.row.Row.{Row}
+use Rattle.dataset_types.specs.Tables.{few_values}
 use Rattle.cell_errors.specs.declared.fault.CellError.TheVariants.{TooLarge}
 use Rattle.cell_errors.specs.declared.fault.EvalFault.{EvalFault}
 use Rattle.cell_errors.specs.Answers.{Answer, Fails, and_then, collect}
@@ -214,17 +215,17 @@ group_rows_in job having items gs = and_then (collect (tested_in job having) gs)
 abbrev pub rows_in : Job → Option Expr → List Item → Answer Batch
 rows_in job having items = rows_of job.rel.now job.places.now having items job.picks.now job.cell
 
--- rows of so many values each, where these are not too many in all
-abbrev pub within : ℕ → Batch → Answer Batch
-within width b = if nat_le (length b.rows * width) 65536 then Ok b else Err TooLarge
+-- rows of so many values each, where these are few in all
+abbrev pub if_few_values : ℕ → Batch → Answer Batch
+if_few_values width b = if few_values (length b.rows) width then Ok b else Err TooLarge
 
--- the rows of these lots, where their values are not too many
+-- the rows of these lots, where their values are few
 abbrev pub lots_within : Job → Option Expr → List Item → List Lot → Answer Batch
-lots_within job having items gs = and_then (group_rows_in job having items gs) (within (length items))
+lots_within job having items gs = and_then (group_rows_in job having items gs) (if_few_values (length items))
 
--- the rows of the groups of a job, where their values are not too many
+-- the rows of the groups of a job, where their values are few
 abbrev pub rows_within : Job → Option Expr → List Item → Answer Batch
-rows_within job having items = and_then (rows_in job having items) (within (length items))
+rows_within job having items = and_then (rows_in job having items) (if_few_values (length items))
 
 -- how many groups HAVING keeps
 abbrev pub kept_count : List TestedLot → ℕ
@@ -259,9 +260,9 @@ abbrev pub over_in : Aggregate → Job → Lot → Expr → Answer Marked
 over_in op job g e = marked_value (over_at op (setting_in job (bound_in job g)) job.picks.now job.cell e)
 
 -- the value at a place, which counts from 0, of a row, where there is one
-abbrev pub value_of : ℕ → Option Row → Option Marked
-value_of place None = None
-value_of place (Some r) = slice_get r.values place
+abbrev pub value_in : ℕ → Option Row → Option Marked
+value_in place None = None
+value_in place (Some r) = slice_get r.values place
 
 -- the values at a place of the rows that have one there
 abbrev pub read_at : ℕ → List Row → List Marked
@@ -278,7 +279,3 @@ operands_at place rows = operands_of (read_at place rows)
 -- one operand more
 abbrev pub with_operand : Operands → Marked → Operands
 with_operand all m = record { values = all.values ++ m.value ∷ []; marked = all.marked || m.marked }
-
--- operands, and others after them
-abbrev pub more_operands : Operands → Operands → Operands
-more_operands a b = record { values = a.values ++ b.values; marked = a.marked || b.marked }

@@ -17,10 +17,10 @@ use crate::job::Job;
 use crate::parts::Lots;
 use crate::uncertain::is_uncertain;
 use cell_errors::{CellError, EvalFault};
-use dataset_types::Picks;
+use dataset_types::{Picks, few_values};
 use expr_lang::Expr;
 use expr_meaning::{Scope, TypedSetting};
-use rel_ops::{are_too_many, item_columns};
+use rel_ops::item_columns;
 use relations::{Batch, ColumnPlaces, ColumnRefs, Item, Items, Rel};
 use std::alloc::Global;
 
@@ -38,7 +38,7 @@ fn group_rows(
 {
     let tested = all_tested(alloc, having, lots, &job)?;
     let tested = tested.as_slice();
-    if are_too_many(kept_count(tested), items.len()) {
+    if !few_values(kept_count(tested), items.len()) {
         check_rows(alloc, items, tested, &job)?;
         return Err(EvalFault::Error(CellError::TooLarge));
     }

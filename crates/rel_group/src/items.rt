@@ -3,7 +3,7 @@ ghost use Rattle.std.specs.Prelude.{◌≡◌, IfOk};
 ghost use Rattle.cell_errors.specs.Answers.{Gives};
 ghost use Rattle.relations.specs.Batches.{gathered};
 ghost use Rattle.relations.specs.Conditions.{kept};
-ghost use Rattle.rel_ops.specs.Project.{checked};
+ghost use Rattle.rel_ops.specs.Project.{no_error};
 ghost use Rattle.rel_group.specs.Calls as calls;
 ghost use Rattle.rel_group.specs.Calls.{HasColumnPlaces, bound_in, item_in, items_in, key_bindings, lot_row};
 
@@ -138,7 +138,7 @@ pub fn check_rows(
     job: &Job,
 ) -> Result<(), EvalFault>
     requires places { HasColumnPlaces job.now }
-    ensures { Gives result (checked (gathered (calls.row_in job.now items.now) lots.now)) }
+    ensures { Gives result (no_error (gathered (calls.row_in job.now items.now) lots.now)) }
 {
     for lot in lots {
         group_row(alloc, items, lot, job)?;

@@ -5,7 +5,7 @@ ghost use Rattle.value_types.specs.declared.value.Value.TheVariants.{Int};
 ghost use Rattle.expr_lang.specs.declared.expr.Expr.{CountAll};
 ghost use Rattle.rel_group.specs.Calls as calls;
 ghost use Rattle.rel_group.specs.Calls.{HasColumnPlaces, MayGive, bound_in, expr_in, key_bindings};
-ghost use Rattle.rel_group.specs.Calls.{operands_at, over_in, rows_by, value_of, with_operand};
+ghost use Rattle.rel_group.specs.Calls.{operands_at, over_in, rows_by, value_in, with_operand};
 
 use crate::binding::row_at;
 use crate::job::Job;
@@ -28,7 +28,7 @@ pub struct Operands {
 
 /// The value at a place of the row at another. Places count from 0.
 fn operand_at(rows: &[Row], place: usize, at: usize) -> Option<&Marked>
-    ensures { option_copied result ≡ value_of place (slice_get rows.now at) }
+    ensures { option_copied result ≡ value_in place (slice_get rows.now at) }
 {
     match row_at(rows, at) {
         None => None,

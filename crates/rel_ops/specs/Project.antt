@@ -73,9 +73,9 @@ abbrev pub item_row : List ScopeColumn → List Item → List Pick → ℕ → R
 item_row columns items picks cell r = and_then (values_at columns items picks cell r) (λ values. Ok (with_values r values))
 
 -- that there is no error, or the first
-abbrev pub checked : Answer Batch → Answer (Unit {0})
-checked (Ok b) = Ok tt
-checked (Err e) = Err e
+abbrev pub no_error : Answer Batch → Answer (Unit {0})
+no_error (Ok b) = Ok tt
+no_error (Err e) = Err e
 
 -- one row for each, under these columns
 abbrev pub projected_to : List ScopeColumn → RelData → List Item → List Pick → ℕ → Answer RelData

@@ -19,6 +19,6 @@ mod uniting;
 pub use filtering::{filter, filter_table};
 pub use laws::{law_of_filter, law_of_limit, law_of_project, law_of_sort, law_of_union};
 pub use limiting::limit;
-pub use projecting::{are_too_many, item_columns, project};
+pub use projecting::{item_columns, project};
 pub use sorting::{any_marked_key, is_sorted, sort};
 pub use uniting::{types_agree, union_all};

@@ -1,5 +1,5 @@
 //! The items.
-ghost use Rattle.std.specs.Prelude.{◌≡◌, ◌*◌, Ok, OnOk, nat_le, not};
+ghost use Rattle.std.specs.Prelude.{◌≡◌, Ok, OnOk};
 ghost use Rattle.cell_errors.specs.Answers.{Gives};
 ghost use Rattle.dataset_types.specs.Tables.{Distinct};
 ghost use Rattle.expr_meaning.specs.Calls.{type_setting};
@@ -7,10 +7,10 @@ ghost use Rattle.expr_meaning.specs.Types.{over_columns};
 ghost use Rattle.relations.specs.Batches.{both, gathered};
 ghost use Rattle.relations.specs.Bound.{AreUnder};
 ghost use Rattle.rel_ops.specs.Project as spec;
-ghost use Rattle.rel_ops.specs.Project.{checked, item_names, item_row, projected, projected_to, with_values};
+ghost use Rattle.rel_ops.specs.Project.{item_names, item_row, no_error, projected, projected_to, with_values};
 
 use cell_errors::{CellError, EvalFault};
-use dataset_types::{Column, Marked, MarkedValues, Picks, Row};
+use dataset_types::{Column, Marked, MarkedValues, Picks, Row, few_values};
 use expr_meaning::{Bindings, ExprType, Scope, ScopeColumn, TypedSetting, eval, type_in};
 use relations::{Batch, Item, Items, Rel, bind_again};
 use std::alloc::Global;
@@ -159,20 +159,13 @@ fn check_rows(
     cell: u32,
 ) -> Result<(), EvalFault>
     ensures { Gives result
-        (checked (gathered (item_row columns.now items.now picks.now cell) rows.now)) }
+        (no_error (gathered (item_row columns.now items.now picks.now cell) rows.now)) }
 {
     let mut bound = Bindings::new(alloc)?;
     for row in rows {
         values_at(alloc, columns, &mut bound, items, picks, cell, row)?;
     }
     Ok(())
-}
-
-/// Whether so many rows of so many values are more than a relation may have.
-pub fn are_too_many(rows: usize, values: usize) -> bool
-    ensures { result ≡ not (nat_le (rows * values) 65536) }
-{
-    65_536 < (rows as u128) * (values as u128)
 }
 
 /// Where the values of all rows would be too many, none of them is kept.
@@ -191,7 +184,7 @@ fn with_columns(
     rel.law_of_rules();
     let of = rel.columns().as_slice();
     let rows = rel.rows().as_slice();
-    if are_too_many(rows.len(), items.len()) {
+    if !few_values(rows.len(), items.len()) {
         check_rows(alloc, of, rows, items.as_slice(), picks, cell)?;
         return Err(EvalFault::Error(CellError::TooLarge));
     }

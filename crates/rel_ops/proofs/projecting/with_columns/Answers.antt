@@ -1,17 +1,15 @@
-use Rattle.std.proofs.Common.{◌*◌, length}
-use Rattle.std.specs.Prelude.{nat_le}
 use Rattle.rel_ops.proofs.ProjectRules.{project_rules}
-use Rattle.rel_ops.proofs.TooMany.{many_items, not_few}
+use Rattle.rel_ops.proofs.TooMany.{many_items}
 use Rattle.rel_ops.proofs.projecting.with_columns.Goals as goal
 
-pub returns-then-are_too_many : goal.returns-then-are_too_many
-returns-then-are_too_many c =
+pub returns-then-not-few_values : goal.returns-then-not-few_values
+returns-then-not-few_values c =
     let rel = c.args.rel.now in
     let items = c.args.items.now in
-    let many = rw (c.as_slice-rows.ensures, c.rows.ensures, c.len.ensures) at c.are_too_many.ensures in
+    let many = rw (c.as_slice-rows.ensures, c.rows.ensures, c.len.ensures) at c.few_values.ensures in
     let checked = rw (c.as_slice-of.ensures, c.columns.ensures, c.as_slice-rows.ensures, c.rows.ensures, c.as_slice.ensures) at c.in_ok-check_rows.ensures in
     many_items rel items c.args.columns c.args.picks.now c.args.cell c.requires.columns
-    (not_few c.are_too_many.result (nat_le (length rel.rows * length items) 65536) many c.if-are_too_many.true) checked
+    (rw many at c.if-not-few_values.true) checked
 
 pub new-requires : goal.new-requires
 new-requires c =
