@@ -1,13 +1,13 @@
 -- What a load gives, by the records of its file.
 use Rattle.std.proofs.Common.{◌≡◌, ◌≤◌, ◌<◌, ◌+◌, ◌^◌, ℕ, List, [], ◌∷◌, length, Bool, true, false, refl, sym, ◌∙◌, ap, arith}
-use Rattle.std.specs.Prelude.{◌&&◌, nat_le, cond, Option, Ok, Err, if◌then◌else◌}
+use Rattle.std.specs.Prelude.{◌&&◌, nat_le, Option, Err, if◌then◌else◌}
 use Rattle.std.proofs.lemmas.Bool.Decides.{nat_tests}
 use Rattle.csv.specs.Reading.{strip_bom, is_bom}
 use Rattle.csv.specs.declared.parser.State.TheVariants as st
 use Rattle.value_types.specs.declared.value.ColumnType.{ColumnType}
 use Rattle.dataset_types.specs.declared.load_options.Repair.{Repair}
 use Rattle.dataset_types.specs.declared.picks.Pick.{Pick}
-use Rattle.dataset_types.specs.Tables.{Distinct, column_names}
+use Rattle.dataset_types.specs.Tables.{Distinct, column_names, few_columns}
 use Rattle.dataset_types.specs.declared.column.Column.{Column}
 use Rattle.cell_errors.specs.declared.fault.CellError.TheVariants as error
 use Rattle.csv_load.specs.Guess.{columns_of}
@@ -58,7 +58,7 @@ module _ (bytes : List ℕ) (types : List (Option ColumnType)) (repair : Repair)
   too_wide header rs e wide =
       let t = loaded (repairs repair picks cell) types header rs in
       let many = columns_many types rs header in
-      let no : nat_le (length (columns_of types header rs)) 32 ≡ false = grind (arith, nat_tests) in
+      let no : few_columns (length (columns_of types header rs)) ≡ false = grind (arith, nat_tests) in
       under_header header rs e ∙ past (nat_le (length rs) 4294967295) rs t refl (rw no refl)
 
 -- two readings of one list

@@ -1,19 +1,19 @@
 -- Rows that are made one after another, and the limits that they may pass.
-use Rattle.std.proofs.Common.{◌≡◌, ◌≤◌, ◌<◌, ◌+◌, ◌*◌, ℕ, zero, suc, List, [], ◌∷◌, ◌++◌, length, drop, map, get_or, Bool, true, false, refl, sym, ◌∙◌, ap, arith, add-one, drop-cons, append_assoc, length-append, ⊎_elim, inl, inr, ◌⊎◌}
-use Rattle.std.specs.Prelude.{◌&&◌, ◌||◌, nat_le, nat_lt, filter, cond, Ok, Err}
-use Rattle.std.specs.List.{enumerate_from, list_any}
+use Rattle.std.proofs.Common.{◌≡◌, ◌≤◌, ◌<◌, ◌+◌, ℕ, List, [], ◌∷◌, ◌++◌, length, drop, map, get_or, Bool, true, false, refl, sym, ◌∙◌, ap, arith, add-one, drop-cons, append_assoc, length-append}
+use Rattle.std.specs.Prelude.{◌&&◌, ◌||◌, nat_le, filter, Err}
+use Rattle.std.specs.List.{enumerate_from}
 use Rattle.std.proofs.lemmas.List.{append-nil}
 use Rattle.std.proofs.lemmas.Bool.Decides.{nat_tests}
 use Rattle.std.proofs.Math.Nat.{mul-le-mul_right}
 use Rattle.dataset_types.specs.declared.column.Column.{Column}
 use Rattle.dataset_types.specs.declared.row.Row.{Row}
-use Rattle.dataset_types.specs.Tables.{TableData, within_limits, text_bytes, ids_short}
+use Rattle.dataset_types.specs.Tables.{TableData, few_columns, few_rows, few_values, few_bytes, within_limits, text_bytes, ids_short}
 use Rattle.cell_errors.specs.declared.fault.CellError.TheVariants as error
 use Rattle.cell_errors.specs.declared.fault.EvalFault.{EvalFault}
 use Rattle.cell_errors.specs.declared.fault.EvalFault.TheVariants as fault
 use Rattle.cell_errors.specs.Answers.{Fails}
 use Rattle.csv_load.specs.Fields.{Repairs}
-use Rattle.csv_load.specs.Rows.{Numbered, has_row, row_of, rows_of, is_surplus, some_surplus}
+use Rattle.csv_load.specs.Rows.{has_row, row_of, rows_of, is_surplus, some_surplus}
 use Rattle.csv_load.specs.Load.{table_in, limited}
 use Rattle.csv_load.specs.Calls.{rows_for, has_room, AddsRow}
 
@@ -68,7 +68,7 @@ past false rs t c e = rw c refl
 
 -- more rows than there is room for
 pub too_many_rows : (rs : List (List (List ℕ))) (t : TableData) (n : ℕ) → n + 1 ≤ length t.rows → has_room n (length t.columns) ≡ false → limited rs t ≡ Err error.TooLarge
-too_many_rows rs t n more full = past (nat_le (length rs) 4294967295) rs t refl (by (nat_lt n 65536) refl)
+too_many_rows rs t n more full = past (nat_le (length rs) 4294967295) rs t refl (by (few_rows (n + 1)) refl)
   where
     both_no : (a c d e : Bool) → (a && false && c && d && e) ≡ false
     both_no true c d e = refl
@@ -79,15 +79,15 @@ too_many_rows rs t n more full = past (nat_le (length rs) 4294967295) rs t refl 
     third_no true false d e = refl
     third_no false b d e = refl
 
-    by : (few : Bool) → nat_lt n 65536 ≡ few → within_limits t ≡ false
+    by : (few : Bool) → few_rows (n + 1) ≡ few → within_limits t ≡ false
     by false e =
-        let no : nat_le (length t.rows) 65536 ≡ false = grind (arith, nat_tests) in
-        rw no (both_no (nat_le (length t.columns) 32) (nat_le (length t.rows * length t.columns) 65536) (nat_le (text_bytes t.rows) 1048576) (ids_short t.rows))
+        let no : few_rows (length t.rows) ≡ false = grind (arith, nat_tests) in
+        rw no (both_no (few_columns (length t.columns)) (few_values (length t.rows) (length t.columns)) (few_bytes (text_bytes t.rows)) (ids_short t.rows))
     by true e =
-        let many : nat_le ((n + 1) * length t.columns) 65536 ≡ false = rw e at full in
+        let many : few_values (n + 1) (length t.columns) ≡ false = rw e at full in
         let product = mul-le-mul_right (length t.columns) more in
-        let no : nat_le (length t.rows * length t.columns) 65536 ≡ false = grind (arith, nat_tests) in
-        rw no (third_no (nat_le (length t.columns) 32) (nat_le (length t.rows) 65536) (nat_le (text_bytes t.rows) 1048576) (ids_short t.rows))
+        let no : few_values (length t.rows) (length t.columns) ≡ false = grind (arith, nat_tests) in
+        rw no (third_no (few_columns (length t.columns)) (few_rows (length t.rows)) (few_bytes (text_bytes t.rows)) (ids_short t.rows))
 
 -- no room for a row is a limit passed
 pub row_fault : (r : Repairs) (columns : List Column) (n : ℕ) (fields : List (List ℕ)) (all rest rs : List (List (List ℕ))) (rows new : List Row) (f : EvalFault) →

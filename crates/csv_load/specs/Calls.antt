@@ -1,12 +1,12 @@
 -- What the functions inside the crate answer.
-use Rattle.std.specs.Prelude.{◌≡◌, ◌≤◌, ◌++◌, true, false, ◌+◌, ◌*◌, ◌&&◌, nat_lt, nat_le, ℕ, if◌then◌else◌, Bool, List, [], ◌∷◌, length, Result, Ok, Err, IsTrue, Option, Some, None}
-use Rattle.std.specs.List.{list_all}
+use Rattle.std.specs.Prelude.{◌≡◌, ◌≤◌, ◌++◌, true, false, ◌+◌, ◌&&◌, ℕ, if◌then◌else◌, Bool, List, [], ◌∷◌, length, Result, Ok, Err, IsTrue, Option, Some, None}
 use Rattle.std.specs.Borrow.{Bor}
 use Rattle.csv.specs.declared.reader.Reader.{Reader}
 use Rattle.value_types.specs.Names.{is_name}
 use Rattle.value_types.specs.declared.value.ColumnType.{ColumnType}
 use Rattle.dataset_types.specs.declared.column.Column.{Column}
 use Rattle.dataset_types.specs.declared.row.Row.{Row}
+use Rattle.dataset_types.specs.Tables.{few_rows, few_values}
 use Rattle.cell_errors.specs.declared.fault.CellError.{CellError}
 use Rattle.cell_errors.specs.declared.fault.CellError.TheVariants as error
 use Rattle.cell_errors.specs.declared.fault.EvalFault.{EvalFault}
@@ -46,7 +46,7 @@ link (b ∷ bs) apart = if apart then 95 ∷ [] else []
 
 -- whether a table with so many rows and columns is within their limits with a row more
 abbrev pub has_room : ℕ → ℕ → Bool
-has_room rows width = nat_lt rows 65536 && nat_le ((rows + 1) * width) 65536
+has_room rows width = few_rows (rows + 1) && few_values (rows + 1) width
 
 -- the row of a record, if it has one
 abbrev pub rows_for : Repairs → List Column → Numbered → List Row

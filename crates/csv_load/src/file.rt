@@ -15,7 +15,7 @@ use crate::record::{read_next, reader_of};
 use crate::row::rows_of;
 use cell_errors::{CellError, EvalFault};
 use csv::{ByteRecord, Reader};
-use dataset_types::{Column, Columns, Picks, Repair, Table, TableFault, Types};
+use dataset_types::{Column, Columns, Picks, Repair, Table, TableFault, Types, few_columns};
 use std::alloc::Global;
 use std::io::Read;
 use value_types::{ColumnType, Name, NoMemory};
@@ -112,7 +112,7 @@ pub fn load(
     let Some(mut reader) = past_header(alloc, bytes, &mut header)? else {
         return Err(EvalFault::Error(CellError::NoHeader));
     };
-    if header.len() > 32 {
+    if !few_columns(header.len()) {
         return Err(EvalFault::Error(CellError::TooLarge));
     }
     let columns = columns_of(alloc, &mut reader, &header, types.as_slice())?;

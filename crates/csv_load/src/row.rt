@@ -1,5 +1,5 @@
 //! The rows of records.
-ghost use Rattle.std.specs.Prelude.{◌≡◌, ◌≤◌, ◌+◌, ◌*◌, ◌&&◌, nat_le, length, IfOk};
+ghost use Rattle.std.specs.Prelude.{◌≡◌, ◌≤◌, length, IfOk};
 ghost use Rattle.csv.specs.Records.{fields_of};
 ghost use Rattle.csv_load.specs.Fields.{marked_value};
 ghost use Rattle.csv_load.specs.Rows as spec;
@@ -10,7 +10,7 @@ use crate::field::Repairs;
 use crate::record::{field_of, read_next};
 use cell_errors::{CellError, EvalFault};
 use csv::{ByteRecord, Reader};
-use dataset_types::{Column, MarkedValues, Row, Rows, Site};
+use dataset_types::{Column, MarkedValues, Row, Rows, Site, few_rows, few_values};
 use std::alloc::Global;
 use std::io::Read;
 use value_types::{ListOf, NoMemory, RowId};
@@ -77,11 +77,10 @@ fn has_row(repairs: &Repairs<'_>, width: usize, number: u32, fields: &ByteRecord
 }
 
 /// Whether a table of so many columns that is within the limits may have a row more.
-fn has_room(rows: &Rows, width: usize) -> bool
-    requires { width ≤ 32 }
+fn has_room(rows: &[Row], width: usize) -> bool
     ensures { result ≡ has_room (length rows.now) width }
 {
-    rows.len() < 65_536 && (rows.len() + 1) * width <= 65_536
+    few_rows(rows.len() + 1) && few_values(rows.len() + 1, width)
 }
 
 /// Adds the row of a record, if it has one, while there is room.
@@ -100,7 +99,7 @@ fn add_row(
     if !has_row(repairs, columns.len(), number, fields) {
         return Ok(());
     }
-    if !has_room(rows, columns.len()) {
+    if !has_room(rows.as_slice(), columns.len()) {
         return Err(EvalFault::Error(CellError::TooLarge));
     }
     let row = row_of(alloc, repairs, columns, number, fields)?;
