@@ -30,11 +30,11 @@ use Rattle.sql_plan.specs.declared.core_plan.CorePlan.{CorePlan}
 use Rattle.sql_plan.specs.declared.plan.Plan.{Plan}
 use Rattle.sql_plan.specs.Folds.{folded}
 use Rattle.sql_plan.specs.Plan.{checked}
-use Rattle.sql_meaning.specs.declared.source.Source.{Source}
+use Rattle.sql_meaning.specs.declared.input.Input.{Input}
 use Rattle.sql_meaning.specs.Steps.{Steps, kind_of, table_of, as_relation_under, rel_at, joined_with, joined_tables, filter_if, output_by, distinct_if, core_rel, all_united, limit_if, planned, headings_of, selected}
-use Rattle.sql_meaning.specs.Sources.{source_if, source_in, sources_in, named_table, named_tables, any_doubt}
+use Rattle.sql_meaning.specs.Inputs.{input_if, input_in, inputs_in, named_table, named_tables, any_doubt}
 use Rattle.sql_meaning.specs.Select.{marked_steps, select_slot, select_meaning}
-use Rattle.sql_meaning.specs.Plain.{plain_steps, plain_rel_table, plain_source_if, plain_sources, plain_select}
+use Rattle.sql_meaning.specs.Plain.{plain_steps, plain_rel_table, plain_input_if, plain_inputs, plain_select}
 use Rattle.sql_meaning.specs.Laws.{erased_slot, erased_look, SelectErases}
 
 -- ---- answers
@@ -196,30 +196,30 @@ module _ (picks : List Pick) (cell : ℕ) where
   some_after (Ok ts) k = refl
   some_after (Err e) k = refl
 
-  abbrev plain_named : Source → List ℕ × PlainTable
+  abbrev plain_named : Input → List ℕ × PlainTable
   plain_named s = erased_pair (named_table s)
 
-  source_erases : (name : List ℕ) (slot : Slot) → mapped plain_named (source_if name slot.doubt slot.table) ≡ plain_source_if name (erased_slot slot)
-  source_erases name slot = by slot.table
+  input_erases : (name : List ℕ) (slot : Slot) → mapped plain_named (input_if name slot.doubt slot.table) ≡ plain_input_if name (erased_slot slot)
+  input_erases name slot = by slot.table
     where
-      by : (o : Option TableData) → mapped plain_named (source_if name slot.doubt o) ≡ plain_source_if name (option_map erased o)
+      by : (o : Option TableData) → mapped plain_named (input_if name slot.doubt o) ≡ plain_input_if name (option_map erased o)
       by None = refl
       by (Some t) = refl
 
-  tables_named : (ss : List Source) → map erased_pair (named_tables ss) ≡ map plain_named ss
+  tables_named : (ss : List Input) → map erased_pair (named_tables ss) ≡ map plain_named ss
   tables_named [] = refl
   tables_named (s ∷ ss) = ap (λ ts. plain_named s ∷ ts) (tables_named ss)
 
   whole_erases : (select : Select) (look : List ℕ → Slot) →
       mapped erased_slot (select_meaning look select picks cell) ≡ mapped Some (plain_select (erased_look look) select picks cell)
   whole_erases select look =
-      then_mapped (map plain_named) erased_slot (sources_in look (names_of select)) (plain_sources (erased_look look) (names_of select))
-      (λ sources. select_slot sources select picks cell) (λ ts. mapped Some (selected P ts select))
-      (collect_mapped plain_named (source_in look) (λ name. plain_source_if name (erased_look look name)) (λ name. source_erases name (look name)) (names_of select))
-      (λ sources.
-      slot_erases (selected S (named_tables sources) select) (any_doubt sources)
-      ∙ ap (mapped Some) (selected_erases (named_tables sources) select ∙ ap (λ ts. selected P ts select) (tables_named sources)))
-      ∙ some_after (plain_sources (erased_look look) (names_of select)) (λ ts. selected P ts select)
+      then_mapped (map plain_named) erased_slot (inputs_in look (names_of select)) (plain_inputs (erased_look look) (names_of select))
+      (λ inputs. select_slot inputs select picks cell) (λ ts. mapped Some (selected P ts select))
+      (collect_mapped plain_named (input_in look) (λ name. plain_input_if name (erased_look look name)) (λ name. input_erases name (look name)) (names_of select))
+      (λ inputs.
+      slot_erases (selected S (named_tables inputs) select) (any_doubt inputs)
+      ∙ ap (mapped Some) (selected_erases (named_tables inputs) select ∙ ap (λ ts. selected P ts select) (tables_named inputs)))
+      ∙ some_after (plain_inputs (erased_look look) (names_of select)) (λ ts. selected P ts select)
 
 pub select_erases : (select : Select) → SelectErases select
 select_erases select look picks cell = whole_erases picks cell select look

@@ -8,7 +8,7 @@ use Rattle.cell_errors.specs.declared.fault.CellError.TheVariants as error
 use Rattle.relations.specs.Rels.{rel_of}
 use Rattle.rel_join.specs.declared.kind.Kind.TheVariants.{Outer}
 use Rattle.sql_meaning.specs.Steps.{kind_of, table_of, all_united}
-use Rattle.sql_meaning.specs.Sources.{sources_in, names_read, any_doubt}
+use Rattle.sql_meaning.specs.Inputs.{inputs_in, names_read, any_doubt}
 use Rattle.sql_meaning.specs.Select.{marked_steps}
 
 -- no columns and no rows
@@ -23,7 +23,7 @@ look name =
 
 -- ---- what is read
 
-both_are_there : sources_in look (codes "a" ∷ codes "d" ∷ []) ≡
+both_are_there : inputs_in look (codes "a" ∷ codes "d" ∷ []) ≡
     Ok (record { name = codes "a"; table = empty; doubt = false } ∷ record { name = codes "d"; table = empty; doubt = true } ∷ [])
 both_are_there = refl
 
@@ -31,7 +31,7 @@ both_are_read : names_read look (codes "a" ∷ codes "d" ∷ []) ≡ codes "a" �
 both_are_read = refl
 
 -- nothing is read after a name that is absent
-none_is_absent : sources_in look (codes "none" ∷ codes "a" ∷ []) ≡ Err error.NoDataset
+none_is_absent : inputs_in look (codes "none" ∷ codes "a" ∷ []) ≡ Err error.NoDataset
 none_is_absent = refl
 
 none_is_the_last : names_read look (codes "a" ∷ codes "none" ∷ codes "d" ∷ []) ≡ codes "a" ∷ codes "none" ∷ []

@@ -13,28 +13,28 @@ use Rattle.cell_model.specs.Reading.{Answers}
 use Rattle.cell_model.specs.Works.{Fixes}
 use Rattle.cell_model.proofs.WorkLemmas.{entry, asked_new, asked_once}
 use Rattle.relations.proofs.Collecting.{rest_of, begun, went_on_at, ended_at, stopped}
-use Rattle.sql_meaning.specs.declared.source.Source.{Source}
-use Rattle.sql_meaning.specs.Sources.{source_if, source_in, sources_in, unless_absent, names_read}
+use Rattle.sql_meaning.specs.declared.input.Input.{Input}
+use Rattle.sql_meaning.specs.Inputs.{input_if, input_in, inputs_in, unless_absent, names_read}
 use Rattle.sql_meaning.proofs.Joinable.{not_before}
 
 -- the first of the names are asked, and their datasets are there
-pub record SoFar (names : List (List ℕ)) (i : ℕ) (sources : List Source) (asked : List Named) : Type 0 where
+pub record SoFar (names : List (List ℕ)) (i : ℕ) (inputs : List Input) (asked : List Named) : Type 0 where
   pub once : Distinct (names_of asked)
   pub are : names_of asked ≡ take i names
-  pub gives : (look : List ℕ → Slot) → Gives look asked → sources_in look names ≡ rest_of sources (source_in look) (drop i names)
+  pub gives : (look : List ℕ → Slot) → Gives look asked → inputs_in look names ≡ rest_of inputs (input_in look) (drop i names)
   pub reads : (look : List ℕ → Slot) → Gives look asked → names_read look names ≡ take i names ++ names_read look (drop i names)
 
 -- before the first name
 pub none_yet : (names : List (List ℕ)) → SoFar names 0 [] []
-none_yet names = record { once = tt; are = refl; gives = λ look g. begun (source_in look) names; reads = λ look g. refl }
+none_yet names = record { once = tt; are = refl; gives = λ look g. begun (input_in look) names; reads = λ look g. refl }
 
 -- what is given of names is given of the first of them, and of the last
 given_parts : (look : List ℕ → Slot) (asked : List Named) (e : Named) → Gives look (asked ++ e ∷ []) → Gives look asked × (look e.name ≡ e.slot)
 given_parts look [] e g = (tt, g.0)
 given_parts look (a ∷ asked) e g = let rest = given_parts look asked e g.1 in ((g.0, rest.0), rest.1)
 
-module _ (names : List (List ℕ)) (i : ℕ) (sources : List Source) (asked asked' : List Named) (name : List ℕ) (slot : Slot)
-    (once : Distinct names) (below : i < length names) (is : name ≡ get_or names i name) (sofar : SoFar names i sources asked) (answers : Answers asked name slot asked') where
+module _ (names : List (List ℕ)) (i : ℕ) (inputs : List Input) (asked asked' : List Named) (name : List ℕ) (slot : Slot)
+    (once : Distinct names) (below : i < length names) (is : name ≡ get_or names i name) (sofar : SoFar names i inputs asked) (answers : Answers asked name slot asked') where
   next_is : drop i names ≡ name ∷ drop (i + 1) names
   next_is = drop_more names i name below ∙ ap (λ z. z ∷ drop (i + 1) names) (sym is)
 
@@ -59,8 +59,8 @@ module _ (names : List (List ℕ)) (i : ℕ) (sources : List Source) (asked aske
   given : (look : List ℕ → Slot) → Gives look asked' → Gives look asked × (look name ≡ slot)
   given look g = given_parts look asked (entry name slot) (subst (Gives look) more g)
 
-  source_here : (look : List ℕ → Slot) → Gives look asked' → source_in look name ≡ source_if name slot.doubt slot.table
-  source_here look g = ap (λ (s : Slot). source_if name s.doubt s.table) (given look g).1
+  input_here : (look : List ℕ → Slot) → Gives look asked' → input_in look name ≡ input_if name slot.doubt slot.table
+  input_here look g = ap (λ (s : Slot). input_if name s.doubt s.table) (given look g).1
 
   names_here : (look : List ℕ → Slot) → Gives look asked' → names_read look names ≡ take i names ++ name ∷ unless_absent slot.table (names_read look (drop (i + 1) names))
   names_here look g =
@@ -68,45 +68,45 @@ module _ (names : List (List ℕ)) (i : ℕ) (sources : List Source) (asked aske
       ∙ (ap (λ z. take i names ++ names_read look z) next_is
       ∙ ap (λ (s : Slot). take i names ++ name ∷ unless_absent s.table (names_read look (drop (i + 1) names))) (given look g).1)
 
-  there : (o : Option TableData) (source : Source) (rest : List (List ℕ)) → source_if name slot.doubt o ≡ Ok source → unless_absent o rest ≡ rest
-  there None source rest e = cc
-  there (Some t) source rest e = refl
+  there : (o : Option TableData) (input : Input) (rest : List (List ℕ)) → input_if name slot.doubt o ≡ Ok input → unless_absent o rest ≡ rest
+  there None input rest e = cc
+  there (Some t) input rest e = refl
 
   -- one name more, which is there
-  pub one_more : (source : Source) → source_if name slot.doubt slot.table ≡ Ok source → SoFar names (i + 1) (sources ++ source ∷ []) asked'
-  one_more source e = record {
+  pub one_more : (input : Input) → input_if name slot.doubt slot.table ≡ Ok input → SoFar names (i + 1) (inputs ++ input ∷ []) asked'
+  one_more input e = record {
     once = asked_once asked name slot asked' sofar.once answers;
     are = names_more ∙ sym taken;
     gives = λ look g.
         sofar.gives look (given look g).0
-        ∙ went_on_at (source_in look) sources source names i name below is (source_here look g ∙ e);
+        ∙ went_on_at (input_in look) inputs input names i name below is (input_here look g ∙ e);
     reads = λ look g.
         names_here look g
-        ∙ (ap (λ z. take i names ++ name ∷ z) (there slot.table source (names_read look (drop (i + 1) names)) e)
+        ∙ (ap (λ z. take i names ++ name ∷ z) (there slot.table input (names_read look (drop (i + 1) names)) e)
         ∙ (sym (append_assoc (take i names) (name ∷ []) (names_read look (drop (i + 1) names))) ∙ ap (λ z. z ++ names_read look (drop (i + 1) names)) (sym taken)));
   }
 
-  absent : (o : Option TableData) (d : CellError) (rest : List (List ℕ)) → source_if name slot.doubt o ≡ Err d → unless_absent o rest ≡ []
+  absent : (o : Option TableData) (d : CellError) (rest : List (List ℕ)) → input_if name slot.doubt o ≡ Err d → unless_absent o rest ≡ []
   absent None d rest e = refl
   absent (Some t) d rest e = cc
 
   -- one that is absent ends the reads
-  pub stops_here : (d : CellError) → source_if name slot.doubt slot.table ≡ Err d → Fixes (λ look. sources_in look names) (λ look. names_read look names) asked' (Err d)
+  pub stops_here : (d : CellError) → input_if name slot.doubt slot.table ≡ Err d → Fixes (λ look. inputs_in look names) (λ look. names_read look names) asked' (Err d)
   stops_here d e = record {
     once = asked_once asked name slot asked' sofar.once answers;
     gives = λ look g.
         sofar.gives look (given look g).0
-        ∙ stopped (source_in look) sources (drop i names) (drop (i + 1) names) name d next_is (source_here look g ∙ e);
+        ∙ stopped (input_in look) inputs (drop i names) (drop (i + 1) names) name d next_is (input_here look g ∙ e);
     names = λ look g.
         names_here look g
         ∙ (ap (λ z. take i names ++ name ∷ z) (absent slot.table d (names_read look (drop (i + 1) names)) e) ∙ sym names_more);
   }
 
 -- all names are read
-pub all_read : (names : List (List ℕ)) (i : ℕ) (sources : List Source) (asked : List Named) → length names ≤ i → SoFar names i sources asked →
-    Fixes (λ look. sources_in look names) (λ look. names_read look names) asked (Ok sources)
-all_read names i sources asked done sofar = record {
+pub all_read : (names : List (List ℕ)) (i : ℕ) (inputs : List Input) (asked : List Named) → length names ≤ i → SoFar names i inputs asked →
+    Fixes (λ look. inputs_in look names) (λ look. names_read look names) asked (Ok inputs)
+all_read names i inputs asked done sofar = record {
   once = sofar.once;
-  gives = λ look g. sofar.gives look g ∙ ended_at (source_in look) sources names i done;
+  gives = λ look g. sofar.gives look g ∙ ended_at (input_in look) inputs names i done;
   names = λ look g. sofar.reads look g ∙ (ap (λ z. take i names ++ names_read look z) (drop_all i names done) ∙ (append-nil (take i names) ∙ sym sofar.are));
 }

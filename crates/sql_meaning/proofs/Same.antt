@@ -10,9 +10,9 @@ use Rattle.cell_errors.specs.Answers.{and_then}
 use Rattle.relations.proofs.Gathered.{fine, the_same, then_ok}
 use Rattle.sql_parse.specs.declared.select.Select.{Select}
 use Rattle.sql_parse.specs.Names.{names_of}
-use Rattle.sql_meaning.specs.declared.source.Source.{Source}
+use Rattle.sql_meaning.specs.declared.input.Input.{Input}
 use Rattle.sql_meaning.specs.Steps.{selected}
-use Rattle.sql_meaning.specs.Sources.{source_if, source_in, sources_in, named_table, named_tables, any_doubt}
+use Rattle.sql_meaning.specs.Inputs.{input_if, input_in, inputs_in, named_table, named_tables, any_doubt}
 use Rattle.sql_meaning.specs.Select.{marked_steps, select_slot}
 use Rattle.sql_meaning.specs.Laws.{HasTables, ShowsSame, SelectKeepsShown}
 use Rattle.sql_meaning.proofs.SameSteps.{SameTable, SameTables, selected_same}
@@ -28,17 +28,17 @@ same_doubt a b e = by a.doubt b.doubt a.table b.table e
     by false true None t e = cc
     by false true (Some s) t e = cc
 
--- two sources of one name: in doubt alike, and where they aren't, they show the same
-record SameSource (a b : Source) : Type 0 where
+-- two inputs of one name: in doubt alike, and where they aren't, they show the same
+record SameInput (a b : Input) : Type 0 where
   doubt : a.doubt ≡ b.doubt
   tables : a.doubt ≡ false → SameTable (named_table a) (named_table b)
 
-abbrev SameSources : List Source → List Source → Type 0
-SameSources [] [] = ⊤
-SameSources (a ∷ xs) (b ∷ ys) = SameSource a b × SameSources xs ys
-SameSources _ _ = ⊥
+abbrev SameInputs : List Input → List Input → Type 0
+SameInputs [] [] = ⊤
+SameInputs (a ∷ xs) (b ∷ ys) = SameInput a b × SameInputs xs ys
+SameInputs _ _ = ⊥
 
-same_any : (xs ys : List Source) → SameSources xs ys → any_doubt xs ≡ any_doubt ys
+same_any : (xs ys : List Input) → SameInputs xs ys → any_doubt xs ≡ any_doubt ys
 same_any [] [] s = refl
 same_any (a ∷ xs) (b ∷ ys) s = λ i. s.0.doubt i || same_any xs ys s.1 i
 same_any [] (b ∷ bs) s = absurd s
@@ -48,23 +48,23 @@ or_parts : (a b : Bool) → (a || b) ≡ false → (a ≡ false) × (b ≡ false
 or_parts false b e = (refl, e)
 or_parts true b e = cc
 
-certain_tables : (xs ys : List Source) → SameSources xs ys → any_doubt xs ≡ false → SameTables (named_tables xs) (named_tables ys)
+certain_tables : (xs ys : List Input) → SameInputs xs ys → any_doubt xs ≡ false → SameTables (named_tables xs) (named_tables ys)
 certain_tables [] [] s e = tt
 certain_tables (a ∷ xs) (b ∷ ys) s e = let h = or_parts a.doubt (any_doubt xs) e in (s.0.tables h.0, certain_tables xs ys s.1 h.1)
 certain_tables [] (b ∷ bs) s e = absurd s
 certain_tables (a ∷ xs) [] s e = absurd s
 
-source_same : (name : List ℕ) (a b : Slot) (x y : Source) → ((t : TableData) → a.table ≡ Some t → IsTable t) → ((t : TableData) → b.table ≡ Some t → IsTable t) →
-    shown_slot a ≡ shown_slot b → source_if name a.doubt a.table ≡ Ok x → source_if name b.doubt b.table ≡ Ok y → SameSource x y
-source_same name a b x y is too e k l = by a.doubt b.doubt a.table b.table is too (same_doubt a b e) e k l
+input_same : (name : List ℕ) (a b : Slot) (x y : Input) → ((t : TableData) → a.table ≡ Some t → IsTable t) → ((t : TableData) → b.table ≡ Some t → IsTable t) →
+    shown_slot a ≡ shown_slot b → input_if name a.doubt a.table ≡ Ok x → input_if name b.doubt b.table ≡ Ok y → SameInput x y
+input_same name a b x y is too e k l = by a.doubt b.doubt a.table b.table is too (same_doubt a b e) e k l
   where
     by : (d f : Bool) (o q : Option TableData) → ((t : TableData) → o ≡ Some t → IsTable t) → ((t : TableData) → q ≡ Some t → IsTable t) → d ≡ f →
-        (if d then Doubtful else shown_table o) ≡ (if f then Doubtful else shown_table q) → source_if name d o ≡ Ok x → source_if name f q ≡ Ok y → SameSource x y
+        (if d then Doubtful else shown_table o) ≡ (if f then Doubtful else shown_table q) → input_if name d o ≡ Ok x → input_if name f q ≡ Ok y → SameInput x y
     by d f None q is too same e k l = cc
     by d f (Some t) None is too same e k l = cc
     by d f (Some t) (Some u) is too same e k l =
-        subst (λ z. SameSource z y) (the_same (record { name = name; table = t; doubt = d }) x k)
-        (subst (SameSource (record { name = name; table = t; doubt = d })) (the_same (record { name = name; table = u; doubt = f }) y l)
+        subst (λ z. SameInput z y) (the_same (record { name = name; table = t; doubt = d }) x k)
+        (subst (SameInput (record { name = name; table = t; doubt = d })) (the_same (record { name = name; table = u; doubt = f }) y l)
         (record { doubt = same; tables = λ certain. record { name = refl; is = is t refl; too = too u refl; same = shows d f t u certain (sym same ∙ certain) e } }))
       where
         shows : (d f : Bool) (t u : TableData) → d ≡ false → f ≡ false → (if d then Doubtful else Table (shown t)) ≡ (if f then Doubtful else Table (shown u)) → shown t ≡ shown u
@@ -72,17 +72,17 @@ source_same name a b x y is too e k l = by a.doubt b.doubt a.table b.table is to
         shows true f t u sure also e = cc
         shows false true t u sure also e = cc
 
-sources_same : (look other : List ℕ → Slot) → HasTables look → HasTables other → (names : List (List ℕ)) (xs ys : List Source) → ShowsSame names look other →
-    sources_in look names ≡ Ok xs → sources_in other names ≡ Ok ys → SameSources xs ys
-sources_same look other is too [] xs ys shows e k = subst (λ z. SameSources z ys) (the_same [] xs e) (subst (SameSources []) (the_same [] ys k) tt)
-sources_same look other is too (n ∷ ns) xs ys shows e k =
-    let m = then_ok (source_in look n) (λ z. and_then (sources_in look ns) (λ zs. fine (z ∷ zs))) xs e in
-    let m2 = then_ok (sources_in look ns) (λ zs. fine (m.0 ∷ zs)) xs m.2 in
-    let l = then_ok (source_in other n) (λ z. and_then (sources_in other ns) (λ zs. fine (z ∷ zs))) ys k in
-    let l2 = then_ok (sources_in other ns) (λ zs. fine (l.0 ∷ zs)) ys l.2 in
-    subst (λ z. SameSources z ys) (the_same (m.0 ∷ m2.0) xs m2.2) (subst (SameSources (m.0 ∷ m2.0)) (the_same (l.0 ∷ l2.0) ys l2.2) (
-      source_same n (look n) (other n) m.0 l.0 (is n) (too n) (shows n (0, omega arith, refl)) m.1 l.1,
-      sources_same look other is too ns m2.0 l2.0 (λ name held. shows name (Contains-append_right (n ∷ []) ns name held)) m2.1 l2.1,
+inputs_same : (look other : List ℕ → Slot) → HasTables look → HasTables other → (names : List (List ℕ)) (xs ys : List Input) → ShowsSame names look other →
+    inputs_in look names ≡ Ok xs → inputs_in other names ≡ Ok ys → SameInputs xs ys
+inputs_same look other is too [] xs ys shows e k = subst (λ z. SameInputs z ys) (the_same [] xs e) (subst (SameInputs []) (the_same [] ys k) tt)
+inputs_same look other is too (n ∷ ns) xs ys shows e k =
+    let m = then_ok (input_in look n) (λ z. and_then (inputs_in look ns) (λ zs. fine (z ∷ zs))) xs e in
+    let m2 = then_ok (inputs_in look ns) (λ zs. fine (m.0 ∷ zs)) xs m.2 in
+    let l = then_ok (input_in other n) (λ z. and_then (inputs_in other ns) (λ zs. fine (z ∷ zs))) ys k in
+    let l2 = then_ok (inputs_in other ns) (λ zs. fine (l.0 ∷ zs)) ys l.2 in
+    subst (λ z. SameInputs z ys) (the_same (m.0 ∷ m2.0) xs m2.2) (subst (SameInputs (m.0 ∷ m2.0)) (the_same (l.0 ∷ l2.0) ys l2.2) (
+      input_same n (look n) (other n) m.0 l.0 (is n) (too n) (shows n (0, omega arith, refl)) m.1 l.1,
+      inputs_same look other is too ns m2.0 l2.0 (λ name held. shows name (Contains-append_right (n ∷ []) ns name held)) m2.1 l2.1,
     ))
 
 slot_same : (d f : Bool) (t u : TableData) → d ≡ f → (d ≡ false → shown t ≡ shown u) →
@@ -94,9 +94,9 @@ slot_same false true t u e h = cc
 
 pub select_keeps_shown : (select : Select) → SelectKeepsShown select
 select_keeps_shown select look other picks others cell x y is too shows e k =
-    let m = then_ok (sources_in look (names_of select)) (λ sources. select_slot sources select picks cell) x e in
-    let n = then_ok (sources_in other (names_of select)) (λ sources. select_slot sources select others cell) y k in
-    let s = sources_same look other is too (names_of select) m.0 n.0 shows m.1 n.1 in
+    let m = then_ok (inputs_in look (names_of select)) (λ inputs. select_slot inputs select picks cell) x e in
+    let n = then_ok (inputs_in other (names_of select)) (λ inputs. select_slot inputs select others cell) y k in
+    let s = inputs_same look other is too (names_of select) m.0 n.0 shows m.1 n.1 in
     let a = then_ok (selected (marked_steps picks cell) (named_tables m.0) select) (λ table. fine (record { table = Some table; doubt = any_doubt m.0 })) x m.2 in
     let b = then_ok (selected (marked_steps others cell) (named_tables n.0) select) (λ table. fine (record { table = Some table; doubt = any_doubt n.0 })) y n.2 in
     ap shown_slot (sym (the_same (record { table = Some a.0; doubt = any_doubt m.0 }) x a.2))

@@ -17,7 +17,7 @@ use Rattle.sql_plan.specs.Headings.{table_columns}
 use Rattle.sql_plan.specs.Cores.{core_checked}
 use Rattle.sql_meaning.specs.declared.job.Job.{Job}
 use Rattle.sql_meaning.specs.Steps.{Steps, rel_at, joined_tables, filter_if, headings_of}
-use Rattle.sql_meaning.specs.Sources.{named_tables}
+use Rattle.sql_meaning.specs.Inputs.{named_tables}
 use Rattle.sql_meaning.specs.Select.{marked_steps}
 
 -- the steps of a job
@@ -26,7 +26,7 @@ steps_of job = marked_steps job.picks.now job.cell
 
 -- its tables
 abbrev pub tables_of : Job → List (List ℕ × TableData)
-tables_of job = named_tables job.sources.now
+tables_of job = named_tables job.inputs.now
 
 -- the columns of its tables
 abbrev pub headings_at : Job → List Heading

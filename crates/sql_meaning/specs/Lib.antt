@@ -7,6 +7,6 @@ pub mod Laws
 -- SELECT over any kind of tables: its steps in order
 pub mod Steps
 -- the datasets that were read
-pub mod Sources
+pub mod Inputs
 -- what the functions ask of each other
 pub mod Calls

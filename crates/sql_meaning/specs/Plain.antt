@@ -44,15 +44,15 @@ plain_steps picks cell = record {
 }
 
 -- the table under its name, if there is one
-abbrev pub plain_source_if : List ℕ → Option PlainTable → Answer (List ℕ × PlainTable)
-plain_source_if name None = Err error.NoDataset
-plain_source_if name (Some table) = Ok (name, table)
+abbrev pub plain_input_if : List ℕ → Option PlainTable → Answer (List ℕ × PlainTable)
+plain_input_if name None = Err error.NoDataset
+plain_input_if name (Some table) = Ok (name, table)
 
 -- the tables of names, or the error of the first that is absent
-abbrev pub plain_sources : PlainEnv → List (List ℕ) → Answer (List (List ℕ × PlainTable))
-plain_sources env names = collect (λ name. plain_source_if name (env name)) names
+abbrev pub plain_inputs : PlainEnv → List (List ℕ) → Answer (List (List ℕ × PlainTable))
+plain_inputs env names = collect (λ name. plain_input_if name (env name)) names
 
 -- what a SELECT gives in an environment
 abbrev pub plain_select : PlainEnv → Select → List Pick → ℕ → Answer PlainTable
 plain_select env select picks cell =
-    and_then (plain_sources env (names_of select)) (λ tables. selected (plain_steps picks cell) tables select)
+    and_then (plain_inputs env (names_of select)) (λ tables. selected (plain_steps picks cell) tables select)

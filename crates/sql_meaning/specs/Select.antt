@@ -14,9 +14,9 @@ use Rattle.rel_join.specs.Join.{joined}
 use Rattle.rel_group.specs.Group.{grouped, distinct}
 use Rattle.sql_parse.specs.declared.select.Select.{Select}
 use Rattle.sql_parse.specs.Names.{names_of}
-use Rattle.sql_meaning.specs.declared.source.Source.{Source}
+use Rattle.sql_meaning.specs.declared.input.Input.{Input}
 use Rattle.sql_meaning.specs.Steps.{Steps, selected}
-use Rattle.sql_meaning.specs.Sources.{sources_in, names_read, named_tables, any_doubt}
+use Rattle.sql_meaning.specs.Inputs.{inputs_in, names_read, named_tables, any_doubt}
 
 -- the steps with marks, under the picks of a cell
 abbrev pub marked_steps : List Pick → ℕ → Steps TableData RelData
@@ -36,15 +36,15 @@ marked_steps picks cell = record {
 }
 
 -- the table under these datasets, doubtful where one of them is
-abbrev pub select_slot : List Source → Select → List Pick → ℕ → Answer Slot
-select_slot sources select picks cell =
-    and_then (selected (marked_steps picks cell) (named_tables sources) select) (λ table.
-    Ok (record { table = Some table; doubt = any_doubt sources }))
+abbrev pub select_slot : List Input → Select → List Pick → ℕ → Answer Slot
+select_slot inputs select picks cell =
+    and_then (selected (marked_steps picks cell) (named_tables inputs) select) (λ table.
+    Ok (record { table = Some table; doubt = any_doubt inputs }))
 
 -- what a SELECT gives in an environment: its datasets are read first
 abbrev pub select_meaning : (List ℕ → Slot) → Select → List Pick → ℕ → Answer Slot
 select_meaning look select picks cell =
-    and_then (sources_in look (names_of select)) (λ sources. select_slot sources select picks cell)
+    and_then (inputs_in look (names_of select)) (λ inputs. select_slot inputs select picks cell)
 
 -- the names that it reads there, in order
 abbrev pub select_names : (List ℕ → Slot) → Select → List (List ℕ)

@@ -7,11 +7,11 @@
 
 mod cores;
 mod finish;
+mod input;
 mod job;
 mod laws;
 mod reading;
 mod run;
-mod source;
 mod tables;
 #[cfg(test)]
 mod tests;
@@ -24,6 +24,6 @@ mod tests_picks;
 #[cfg(test)]
 mod tests_wide;
 
+pub use input::{Input, Inputs};
 pub use laws::law_of_select;
 pub use run::run_select;
-pub use source::{Source, Sources};

@@ -2,22 +2,22 @@
 ghost use Rattle.std.specs.Prelude.{◌≡◌, [], None};
 ghost use Rattle.dataset_types.specs.Tables.{Distinct};
 ghost use Rattle.cell_model.specs.Works.{Works, KeepsSource};
-ghost use Rattle.sql_meaning.specs.Sources.{source_if, sources_in, names_read};
+ghost use Rattle.sql_meaning.specs.Inputs.{input_if, inputs_in, names_read};
 
-use crate::source::{Source, Sources};
+use crate::input::{Input, Inputs};
 use cell_errors::CellError;
 use cell_model::{Reads, WorkFault};
 use dataset_types::Slot;
 use std::alloc::Global;
 use value_types::Name;
 
-fn source_of(name: &Name, slot: Slot) -> Result<Source, CellError>
-    ensures { result ≡ source_if name.now slot.doubt slot.table }
+fn input_of(name: &Name, slot: Slot) -> Result<Input, CellError>
+    ensures { result ≡ input_if name.now slot.doubt slot.table }
 {
     let Slot { table, doubt } = slot;
     match table {
         None => Err(CellError::NoDataset),
-        Some(table) => Ok(Source {
+        Some(table) => Ok(Input {
             name: name.copy(),
             table,
             doubt,
@@ -28,23 +28,23 @@ fn source_of(name: &Name, slot: Slot) -> Result<Source, CellError>
 /// The datasets of these names, in order.
 ///
 /// - Error: `NoDataset` at the first that is absent; no name after it is read.
-pub(crate) fn read_sources<R: Reads>(
+pub(crate) fn read_inputs<R: Reads>(
     alloc: Global,
     names: &[Name],
     reads: &mut R,
-) -> Result<Sources, WorkFault>
+) -> Result<Inputs, WorkFault>
     requires once { Distinct names.now }
     requires fresh { R.asked reads.old ≡ [] }
     requires going { R.ended reads.old ≡ None }
-    ensures works { Works (λ look. sources_in look names.now) (λ look. names_read look names.now)
+    ensures works { Works (λ look. inputs_in look names.now) (λ look. names_read look names.now)
         result (R.asked reads.new) (R.ended reads.new) }
     ensures source { KeepsSource (R.source reads.old) (R.source reads.new) (R.asked reads.new) }
 {
-    let mut sources = Sources::new(alloc)?;
+    let mut inputs = Inputs::new(alloc)?;
     for name in names {
         let slot = reads.read(alloc, name)?;
-        let source = source_of(name, slot)?;
-        sources.push(alloc, source)?;
+        let input = input_of(name, slot)?;
+        inputs.push(alloc, input)?;
     }
-    Ok(sources)
+    Ok(inputs)
 }

@@ -7,9 +7,9 @@ ghost use Rattle.sql_meaning.specs.Select as spec;
 ghost use Rattle.sql_meaning.specs.Steps as steps;
 
 use crate::finish::planned;
+use crate::input::{Input, Inputs, any_doubt};
 use crate::job::Job;
-use crate::reading::read_sources;
-use crate::source::{Source, Sources, any_doubt};
+use crate::reading::read_inputs;
 use cell_errors::EvalFault;
 use cell_model::{Reads, WorkFault};
 use dataset_types::{Picks, Slot, Table};
@@ -22,9 +22,9 @@ fn headings_of(alloc: Global, job: &Job) -> Result<Headings, NoMemory>
     ensures { IfOk result (λ hs. hs ≡ headings_at job.now) }
 {
     let mut all = Headings::new(alloc)?;
-    for source in job.sources {
-        let columns = source.table.get().columns().copy(alloc)?;
-        let dataset = source.name.copy();
+    for input in job.inputs {
+        let columns = input.table.get().columns().copy(alloc)?;
+        let dataset = input.name.copy();
         all.push(alloc, Heading { dataset, columns })?;
     }
     Ok(all)
@@ -41,22 +41,22 @@ fn selected(alloc: Global, job: &Job, select: &Select) -> Result<Table, EvalFaul
 /// What a SELECT gives of datasets that were read.
 fn select_slot(
     alloc: Global,
-    sources: &Sources,
+    inputs: &Inputs,
     select: &Select,
     cell: u32,
     picks: &Picks,
 ) -> Result<Slot, EvalFault>
-    ensures { Gives result (spec.select_slot sources.now select.now picks.now cell) }
+    ensures { Gives result (spec.select_slot inputs.now select.now picks.now cell) }
 {
     let job = Job {
-        sources: sources.as_slice(),
+        inputs: inputs.as_slice(),
         picks,
         cell,
     };
     let table = selected(alloc, &job, select)?;
     Ok(Slot {
         table: Some(ArcOf::new(alloc, table)?),
-        doubt: any_doubt(sources.as_slice()),
+        doubt: any_doubt(inputs.as_slice()),
     })
 }
 
@@ -83,7 +83,7 @@ pub fn run_select<R: Reads>(
     ensures source { KeepsSource (R.source reads.old) (R.source reads.new) (R.asked reads.new) }
 {
     let names = names_of(alloc, select)?;
-    let sources = read_sources(alloc, names.as_slice(), reads)?;
-    let slot = select_slot(alloc, &sources, select, cell, picks)?;
+    let inputs = read_inputs(alloc, names.as_slice(), reads)?;
+    let slot = select_slot(alloc, &inputs, select, cell, picks)?;
     Ok(slot)
 }

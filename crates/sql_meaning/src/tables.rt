@@ -6,11 +6,11 @@ ghost use Rattle.rel_join.specs.Rules.{AreApart};
 ghost use Rattle.sql_plan.specs.Folds.{folded};
 ghost use Rattle.sql_plan.specs.Headings.{table_columns};
 ghost use Rattle.sql_meaning.specs.Calls.{steps_of, tables_of, headings_at, AreJoinable, chosen_at};
-ghost use Rattle.sql_meaning.specs.Sources.{named_tables};
+ghost use Rattle.sql_meaning.specs.Inputs.{named_tables};
 ghost use Rattle.sql_meaning.specs.Steps as spec;
 
+use crate::input::Input;
 use crate::job::Job;
-use crate::source::Source;
 use cell_errors::{CellError, EvalFault};
 use dataset_types::Table;
 use expr_lang::Expr;
@@ -21,12 +21,12 @@ use sql_parse::{Core, JoinPart, TableRef};
 use std::alloc::Global;
 use value_types::Name;
 
-fn table_of<'a>(sources: &'a [Source], name: &Name) -> Option<&'a Table>
-    ensures { option_copied result ≡ spec.table_of (named_tables sources.entry.now) name.now }
+fn table_of<'a>(inputs: &'a [Input], name: &Name) -> Option<&'a Table>
+    ensures { option_copied result ≡ spec.table_of (named_tables inputs.entry.now) name.now }
 {
-    for source in sources {
-        if source.name.same(name) {
-            return Some(source.table.get());
+    for input in inputs {
+        if input.name.same(name) {
+            return Some(input.table.get());
         }
     }
     None
@@ -35,7 +35,7 @@ fn table_of<'a>(sources: &'a [Source], name: &Name) -> Option<&'a Table>
 fn rel_at(alloc: Global, job: &Job, table: &TableRef) -> Result<Rel, EvalFault>
     ensures { Gives result (spec.rel_at (steps_of job.now) (tables_of job.now) table.now) }
 {
-    match table_of(job.sources, &table.dataset) {
+    match table_of(job.inputs, &table.dataset) {
         None => Err(EvalFault::Error(CellError::NoDataset)),
         Some(found) => {
             let qualifier = Some(table.qualifier.copy());
@@ -53,7 +53,7 @@ pub(crate) fn filtered_at(
 ) -> Result<Rel, EvalFault>
     ensures { Gives result (chosen_at job.now table.now condition.now) }
 {
-    match table_of(job.sources, &table.dataset) {
+    match table_of(job.inputs, &table.dataset) {
         None => Err(EvalFault::Error(CellError::NoDataset)),
         Some(found) => {
             let qualifier = Some(table.qualifier.copy());

@@ -26,7 +26,7 @@ abbrev pub once_or_twice : Bool → ScopeColumn → List ScopeColumn
 once_or_twice true c = c ∷ []
 once_or_twice false c = c ∷ c ∷ []
 
--- the column at a place, once where that is the place of a key
+-- the column at a place, which counts from 1 as those of keys do, once where that is the place of a key
 abbrev pub columns_at : List ℕ → ColumnAt → List ScopeColumn
 columns_at keys at = once_or_twice (is_key keys at.place) at.column
 

@@ -1,13 +1,13 @@
 //! The datasets that a SELECT reads.
 ghost use Rattle.std.specs.Prelude.{◌≡◌};
-ghost use Rattle.sql_meaning.specs.Sources as spec;
+ghost use Rattle.sql_meaning.specs.Inputs as spec;
 
 use dataset_types::Table;
 use value_types::{ArcOf, ListOf, Name};
 
 /// A dataset that was read, under its name.
 #[derive(Drop)]
-pub struct Source {
+pub struct Input {
     pub name: Name,
     pub table: ArcOf<Table>,
     /// Whether its slot is in doubt.
@@ -15,11 +15,11 @@ pub struct Source {
 }
 
 /// Datasets that were read, in order.
-pub type Sources = ListOf<Source>;
+pub type Inputs = ListOf<Input>;
 
 /// Whether one of them is in doubt.
-pub(crate) fn any_doubt(sources: &[Source]) -> bool
-    ensures { result ≡ spec.any_doubt sources.now }
+pub(crate) fn any_doubt(inputs: &[Input]) -> bool
+    ensures { result ≡ spec.any_doubt inputs.now }
 {
-    sources.iter().any(|source| source.doubt)
+    inputs.iter().any(|input| input.doubt)
 }
