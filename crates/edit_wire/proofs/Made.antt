@@ -1,8 +1,7 @@
 -- The parts of a make cell's table keep the rules of a table.
-use Rattle.std.proofs.Common.{◌≡◌, ℕ, suc, ◌+◌, ◌<◌, ◌&&◌, List, [], ◌∷◌, ◌++◌, length, Bool, true, false, refl, ap, sym, subst, ◌∙◌, eq-eqb, append_assoc, append-nil, arith, Option, Some, None}
+use Rattle.std.proofs.Common.{◌≡◌, ℕ, suc, ◌+◌, ◌&&◌, List, [], ◌∷◌, ◌++◌, length, Bool, true, false, refl, ap, sym, subst, ◌∙◌, eq-eqb, append_assoc, append-nil, arith, Option, Some, None}
 use Rattle.std.specs.Prelude.{if◌then◌else◌, option_and_then}
 use Rattle.std.specs.List.{list_all}
-use Rattle.std.proofs.lemmas.Bool.{lt-leb}
 use Rattle.std.proofs.lemmas.Bool.Decides.{same_from_decides}
 use Rattle.std.specs.Prelude.{◌↔◌, IsTrue}
 use Rattle.serde_json.specs.Data.{Data, Items, no_items, item}
@@ -16,7 +15,7 @@ use Rattle.value_types.specs.declared.value.Value.{Value}
 use Rattle.value_types.specs.declared.value.Value.TheVariants as value
 use Rattle.value_types.specs.declared.row_id.RowId.{Rec}
 use Rattle.dataset_types.specs.Fitting.{fitted}
-use Rattle.dataset_types.specs.Tables.{Distinct, fits, values_fit, row_fits, rows_fit, all_sure, column_names, row_ids, names_apart, numbered, table_of, within_limits}
+use Rattle.dataset_types.specs.Tables.{Distinct, few_rows, fits, values_fit, row_fits, rows_fit, all_sure, column_names, row_ids, names_apart, numbered, table_of, within_limits}
 use Rattle.dataset_types.proofs.RuleLemmas.{names_decide}
 use Rattle.dataset_types.proofs.TableLemmas.{distinct_numbered}
 use Rattle.dataset_types.specs.declared.column.Column.{Column}
@@ -136,22 +135,22 @@ second_fails a true c d e h = absurd (cc)
 second_fails true false c d e h = refl
 second_fails false false c d e h = refl
 
-beyond_limit : (cs : List Column) (rows : List Row) → 65536 < length rows → within_limits (table_of cs rows false false) ≡ false
-beyond_limit cs rows many = second_fails _ _ _ _ _ (lt-leb (length rows) 65536 many)
+beyond_limit : (cs : List Column) (rows : List Row) → few_rows (length rows) ≡ false → within_limits (table_of cs rows false false) ≡ false
+beyond_limit cs rows many = second_fails _ _ _ _ _ many
 
 too_long : (cs : List Column) (ds : Items) (o : Option (List Row)) → ((rows : List Row) → o ≡ Some rows → length rows ≡ count ds)
-    → 65536 < count ds → option_and_then (limited cs) o ≡ None
+    → few_rows (count ds) ≡ false → option_and_then (limited cs) o ≡ None
 too_long cs ds None counted many = refl
 too_long cs ds (Some rows) counted many =
-    let more : 65536 < length rows = subst (λ n. 65536 < n) (sym (counted rows refl)) many in
+    let more : few_rows (length rows) ≡ false = ap few_rows (counted rows refl) ∙ many in
     ap (λ b. if b then Some (table_of cs rows false false) else None) (beyond_limit cs rows more)
 
-under_heading : (ds : Items) (o : Option (List Column)) → 65536 < count ds → None ≡ option_and_then (λ cs. option_and_then (limited cs) (rows_from cs 1 ds)) o
+under_heading : (ds : Items) (o : Option (List Column)) → few_rows (count ds) ≡ false → None ≡ option_and_then (λ cs. option_and_then (limited cs) (rows_from cs 1 ds)) o
 under_heading ds None many = refl
 under_heading ds (Some cs) many = sym (too_long cs ds (rows_from cs 1 ds) (λ rows e. (are_rows cs 0 ds rows e).1) many)
 
 -- more rows than a dataset may have
-pub too_many : (heads ds : Items) → 65536 < count ds → None ≡ table_from heads ds
+pub too_many : (heads ds : Items) → few_rows (count ds) ≡ false → None ≡ table_from heads ds
 too_many heads ds many = under_heading ds (heading_of heads) many
 
 -- a list has as many items as values

@@ -12,7 +12,7 @@ use Rattle.cell_model.specs.declared.cell.CellKind.TheVariants as cell
 use Rattle.json_fields.specs.Json.{has_members, field, counted}
 use Rattle.json_fields.specs.Values.{name_in}
 use Rattle.json_fields.specs.Written.{IsJsonOf}
-use Rattle.json_fields.proofs.Fields.{tally, fields_within, there}
+use Rattle.json_fields.proofs.Fields.{fields_within, there}
 use Rattle.json_fields.proofs.Options.{mapped, chained, tested}
 use Rattle.sheet_json.specs.Commands.{command_named, command_of}
 use Rattle.edit_wire.specs.declared.edit.EditCell.{EditCell}

@@ -7,7 +7,7 @@ use Rattle.std.proofs.lemmas.Bool.{and_parts, leb-true}
 use Rattle.serde_json.specs.Data.{Data, Items}
 use Rattle.serde_json.specs.Find.{get, as_array, as_str}
 use Rattle.value_types.specs.declared.value.ColumnType.{ColumnType}
-use Rattle.dataset_types.specs.Tables.{TableData, names_apart, numbered, table_of, within_limits}
+use Rattle.dataset_types.specs.Tables.{TableData, few_columns, names_apart, numbered, table_of, within_limits}
 use Rattle.dataset_types.specs.declared.column.Column.{Column}
 use Rattle.dataset_types.specs.declared.row.Row.{Row}
 use Rattle.dataset_types.specs.declared.load_options.Repair.TheVariants as repair
@@ -38,8 +38,8 @@ heading_some : (heads : Items) (cs : List Column) → heading_of heads ≡ Some 
 heading_some heads cs e =
     let read = chained (λ (columns : List Column). if is_heading columns then Some columns else None) (all_of column_in heads) cs e in
     let tested = taken (is_heading read.0) read.0 cs read.2 in
-    let parts = and_parts (nat_le 1 (length read.0) && nat_le (length read.0) 32) (names_apart read.0) tested.0 in
-    let some = leb-true 1 (length read.0) (and_parts (nat_le 1 (length read.0)) (nat_le (length read.0) 32) parts.0).0 in
+    let parts = and_parts (nat_le 1 (length read.0) && few_columns (length read.0)) (names_apart read.0) tested.0 in
+    let some = leb-true 1 (length read.0) (and_parts (nat_le 1 (length read.0)) (few_columns (length read.0)) parts.0).0 in
     omega (arith, some, ap length tested.1)
 
 plain_parts : (cs : List Column) (rows : List Row) → 1 ≤ length cs → AreRows cs 0 rows → IsPlainTable (table_of cs rows false false)

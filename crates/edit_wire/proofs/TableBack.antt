@@ -1,6 +1,6 @@
 -- The parts of a plain table are read back from their JSON.
 use Rattle.std.proofs.Common.{◌≡◌, ℕ, zero, suc, ◌+◌, ◌&&◌, List, [], ◌∷◌, ◌++◌, map, length, Bool, true, false, not, refl, ap, ap₂, sym, ◌∙◌, add-zero, append_assoc, append-nil, arith, Some, None}
-use Rattle.std.specs.Prelude.{nat_le, ◌==◌, if◌then◌else◌}
+use Rattle.std.specs.Prelude.{◌==◌, if◌then◌else◌}
 use Rattle.std.specs.List.{list_all}
 use Rattle.std.proofs.lemmas.Bool.{le-leb, eqb-true, and_parts}
 use Rattle.serde_json.specs.Data.{Data, Items, no_items, item}
@@ -11,7 +11,7 @@ use Rattle.value_types.specs.declared.value.Value.{Value}
 use Rattle.value_types.specs.declared.value.Value.TheVariants as value
 use Rattle.value_types.specs.declared.row_id.RowId.{RowId, Rec}
 use Rattle.dataset_types.specs.Fitting.{fitted}
-use Rattle.dataset_types.specs.Tables.{TableData, IsTable, fits, values_fit, row_fits, rows_fit, all_sure, row_ids, numbered, table_of, within_limits}
+use Rattle.dataset_types.specs.Tables.{TableData, IsTable, few_columns, fits, values_fit, row_fits, rows_fit, all_sure, row_ids, numbered, table_of, within_limits}
 use Rattle.dataset_types.proofs.RuleLemmas.{names_decide}
 use Rattle.dataset_types.specs.declared.column.Column.{Column}
 use Rattle.dataset_types.specs.declared.row.Marked.{Marked}
@@ -108,7 +108,7 @@ limited_back t made within is = ap (λ b. if b then Some made else None) within 
 pub heading_back : (t : TableData) (ds : Items) → IsTable t → IsPlainTable t → all_of column_in ds ≡ Some t.columns → heading_of ds ≡ Some t.columns
 heading_back t ds table plain e =
     let some = le-leb 1 (length t.columns) plain.columns in
-    let few = first_holds (nat_le (length t.columns) 32) _ _ _ _ table.limits in
+    let few = first_holds (few_columns (length t.columns)) _ _ _ _ table.limits in
     let apart = (names_decide t.columns).1 table.names in
     rw (e, some, few, apart) refl
 

@@ -6,7 +6,7 @@ use Rattle.serde_json.specs.Find.{as_array}
 use Rattle.value_types.specs.declared.value.Value.{Value}
 use Rattle.value_types.specs.declared.row_id.RowId.TheVariants as id
 use Rattle.dataset_types.specs.Fitting.{fitted}
-use Rattle.dataset_types.specs.Tables.{TableData, names_apart, table_of, within_limits}
+use Rattle.dataset_types.specs.Tables.{TableData, few_columns, names_apart, table_of, within_limits}
 use Rattle.dataset_types.specs.declared.column.Column.{Column}
 use Rattle.dataset_types.specs.declared.row.Marked.{Marked}
 use Rattle.dataset_types.specs.declared.row.Row.{Row}
@@ -20,7 +20,7 @@ use Rattle.json_fields.specs.Columns.{column_in}
 
 -- 1 to 32 columns of distinct names
 abbrev pub is_heading : List Column → Bool
-is_heading columns = nat_le 1 (length columns) && nat_le (length columns) 32 && names_apart columns
+is_heading columns = nat_le 1 (length columns) && few_columns (length columns) && names_apart columns
 
 -- the columns of an array, where they are a heading
 abbrev pub heading_of : Items → Option (List Column)

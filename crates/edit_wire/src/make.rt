@@ -6,7 +6,8 @@ ghost use Rattle.edit_wire.specs.Make as spec;
 
 use cell_model::CellKind;
 use dataset_types::{
-    Column, Columns, Marked, MarkedValues, Row, Rows, Table, TableFault, names_distinct,
+    Column, Columns, Marked, MarkedValues, Row, Rows, Table, TableFault, few_columns, few_rows,
+    names_distinct,
 };
 use json_fields::{all_of, field, has_members, list_field, value_for};
 use serde_json::Value as Json;
@@ -22,7 +23,7 @@ fn names_apart(columns: &[Column]) -> bool
 fn is_heading(columns: &[Column]) -> bool
     ensures { result ≡ spec.is_heading columns.now }
 {
-    1 <= columns.len() && columns.len() <= 32 && names_apart(columns)
+    1 <= columns.len() && few_columns(columns.len()) && names_apart(columns)
 }
 
 /// The columns of a list, where they are 1 to 32 of distinct names.
@@ -129,7 +130,7 @@ fn table_from(alloc: Global, heads: &[Json], list: &[Json]) -> Result<Option<Tab
     ensures { IfOk result (λ found.
         found ≡ spec.table_from (items_view heads.now) (items_view list.now)) }
 {
-    if list.len() > 65_536 {
+    if !few_rows(list.len()) {
         return Ok(None);
     }
     let Some(columns) = heading_of(alloc, heads)? else {

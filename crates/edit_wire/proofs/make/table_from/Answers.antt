@@ -1,12 +1,13 @@
-use Rattle.std.proofs.Common.{◌<◌, sym, subst}
+use Rattle.std.proofs.Common.{◌≡◌, false, sym, subst, ◌∙◌}
 use Rattle.serde_json.specs.View.{items_view}
+use Rattle.dataset_types.specs.Tables.{few_rows}
 use Rattle.edit_wire.proofs.Made.{rows_read, distinct_ids, too_many, counted}
 use Rattle.edit_wire.proofs.make.table_from.Goals as goal
 
-pub returns-then-list-gt65536 : goal.returns-then-list-gt65536
-returns-then-list-gt65536 c =
+pub returns-then-not-few_rows : goal.returns-then-not-few_rows
+returns-then-not-few_rows c =
     too_many (items_view c.args.heads.now) (items_view c.args.list.now)
-    (subst (λ n. 65536 < n) (sym (counted c.args.list.now)) c.if-list-gt65536.true)
+    (subst (λ n. few_rows n ≡ false) (sym (counted c.args.list.now)) (sym c.few_rows.ensures ∙ c.if-not-few_rows.true))
 
 pub limited-requires-clause-ids : goal.limited-requires-clause-ids
 limited-requires-clause-ids c =
